@@ -1,0 +1,39 @@
+-- The laws of nearest that its users need: within a half, the only such number, exact at multiples, monotone. Assumes nothing.
+use mathlib.Core.Path.{_≡_, sym}
+use Prim.Native.Nat.{ℕ, zero, suc, _+_, _*_, _/_, _≤_, _<_}
+use native.Mathlib.Nat.{div-mul-le-self, lt-div-mul-add, div-eq-of-lt-le, div-zero, le-div-iff-mul-le}
+use native.Mathlib.Omega.{arith}
+use Rattle.rounding.specs.Nearest.{nearest, IsNearest}
+
+double : (q d : ℕ) → q * (2 * d) ≡ 2 * (q * d)
+double q d = omega arith
+
+pub nearest-is : (x d : ℕ) → 0 < d → IsNearest x d (nearest x d)
+unfolding nearest
+nearest-is x d h =
+    let below : (2 * x + d) / (2 * d) * (2 * d) ≤ 2 * x + d = div-mul-le-self (2 * x + d) (2 * d) in
+    let pos : 0 < 2 * d = omega arith in
+    let above : 2 * x + d < (2 * x + d) / (2 * d) * (2 * d) + 2 * d = lt-div-mul-add pos in
+    let same : (2 * x + d) / (2 * d) * (2 * d) ≡ 2 * ((2 * x + d) / (2 * d) * d) = double ((2 * x + d) / (2 * d)) d in
+    record { not-above = omega arith; not-below = omega arith }
+
+pub nearest-only : (x d q : ℕ) → 0 < d → IsNearest x d q → q ≡ nearest x d
+unfolding nearest
+nearest-only x d q h is =
+    let low : q * (2 * d) ≤ 2 * x + d = omega (arith, double q d) in
+    let high : 2 * x + d < (q + 1) * (2 * d) = omega (arith, double q d) in
+    sym (div-eq-of-lt-le (2 * d) low high)
+
+pub nearest-zero : (x : ℕ) → nearest x 0 ≡ 0
+unfolding nearest
+nearest-zero x = div-zero (2 * x + 0)
+
+pub nearest-multiple : (q d : ℕ) → 0 < d → nearest (q * d) d ≡ q
+nearest-multiple q d h = sym (nearest-only (q * d) d q h (record { not-above = omega arith; not-below = omega arith }))
+
+pub nearest-mono : (x y d : ℕ) → x ≤ y → nearest x d ≤ nearest y d
+unfolding nearest
+nearest-mono x y zero h = omega (arith, nearest-zero x, nearest-zero y)
+nearest-mono x y (suc d) h =
+    let pos : 0 < 2 * suc d = omega arith in
+    le-div-iff-mul-le pos .1 (omega (arith, div-mul-le-self (2 * x + suc d) (2 * suc d)))
