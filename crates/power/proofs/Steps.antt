@@ -1,0 +1,40 @@
+-- One turn of each loop of `Profile value`, and its end, in the words of the definitions.
+-- Assumes nothing.
+use mathlib.Core.Path.{_≡_, refl}
+use Prim.Native.Nat.{ℕ, zero, suc, _-_, _/_, _%_, _^_, _≤_, _<_}
+use native.Mathlib.Omega.{arith}
+use lib.Dec.{eqb}
+use borrow.Author.Tests.{eq-eqb, ne-eqb}
+use Rattle.power.specs.declared.rounded.Rounding.{Rounding}
+use Rattle.power.specs.Power.{pick, product, nextRoot, raise, climb}
+
+module _ (way : Rounding) where
+  pub raise-done : (n r p : ℕ) → n ≤ 0 → raise way n r p ≡ p
+  unfolding raise
+  raise-done zero r p h = refl
+  raise-done (suc n) r p h = absurd (omega arith)
+
+  pub raise-turn : (n r p : ℕ) → 0 < n → raise way n r p ≡ raise way (n - 1) r (product way p r)
+  unfolding raise
+  raise-turn zero r p h = absurd (omega arith)
+  raise-turn (suc n) r p h =
+      let e : suc n - 1 ≡ n = omega arith in
+      rw e
+
+  pub climb-done : (k r p c : ℕ) → k ≤ 0 → climb way k r p c ≡ p
+  unfolding climb
+  climb-done zero r p c h = refl
+  climb-done (suc k) r p c h = absurd (omega arith)
+
+  climb-turn : (k r p c : ℕ) → 0 < k → climb way k r p c ≡ climb way (k - 1) (nextRoot way r) (pick (eqb (c / 2 ^ (k - 1) % 2) 1) (product way p (nextRoot way r)) p) c
+  unfolding climb
+  climb-turn zero r p c h = absurd (omega arith)
+  climb-turn (suc k) r p c h =
+      let e : suc k - 1 ≡ k = omega arith in
+      rw e
+
+  pub climb-set : (k r p c : ℕ) → 0 < k → c / 2 ^ (k - 1) % 2 ≡ 1 → climb way k r p c ≡ climb way (k - 1) (nextRoot way r) (product way p (nextRoot way r)) c
+  climb-set k r p c h bit = rw (eq-eqb (c / 2 ^ (k - 1) % 2) 1 bit) at (climb-turn k r p c h)
+
+  pub climb-clear : (k r p c : ℕ) → 0 < k → (c / 2 ^ (k - 1) % 2 ≡ 1 → ⊥) → climb way k r p c ≡ climb way (k - 1) (nextRoot way r) p c
+  climb-clear k r p c h bit = rw (ne-eqb (c / 2 ^ (k - 1) % 2) 1 bit) at (climb-turn k r p c h)

@@ -1,0 +1,121 @@
+-- `Profile value`: "Put one = 2^30." The exponent, the power of a ratio by roots, its two bounds, and that they enclose the exact power.
+-- Nothing here is meant to be seen through by a caller: proofs/Laws has what is known of it.
+use mathlib.Core.Path.{_≡_}
+use mathlib.Core.Bool.{Bool, true, false}
+use Prim.Native.Nat.{ℕ, zero, suc, _+_, _-_, _*_, _/_, _%_, _^_, _≤_, _<_}
+use lib.Dec.{ltb, eqb}
+use Rattle.power.specs.declared.rounded.Rounding.{Rounding}
+use Rattle.power.specs.declared.rounded.Rounding.the-variants.{Down, Up}
+
+-- a where the test holds, else b
+abbrev pub pick : Bool → ℕ → ℕ → ℕ
+pick true a b = a
+pick false a b = b
+
+unfoldable pub one : ℕ
+one = 2 ^ 30
+
+-- a / b as a whole number, "rounded down" or "rounded up"
+unfoldable pub quotient : Rounding → ℕ → ℕ → ℕ
+quotient Down a b = a / b
+quotient Up a b = (a + (b - 1)) / b
+
+-- while s * s is above x, s becomes the mean of s and x / s; it falls each time, so s turns are enough
+unfoldable pub newton : (turns x s : ℕ) → ℕ
+newton zero x s = s
+newton (suc k) x s = elim (ltb x (s * s)) [ true ↦ newton k x ((s + x / s) / 2) | false ↦ s ]
+
+-- the greatest s with s * s ≤ x: from the mean of one and x / one, which is not below it
+unfoldable pub sqrtDown : ℕ → ℕ
+sqrtDown x =
+    let s : ℕ = (one + x / one) / 2 in
+    newton s x s
+
+-- what `sqrtDown x` is, for every x (proofs/Root, `root-down`)
+pub record RootDown (x s : ℕ) : Type 0 where
+  pub low : s * s ≤ x
+  pub next : x < (s + 1) * (s + 1)
+
+-- the least s with x ≤ s * s
+unfoldable pub sqrtUp : ℕ → ℕ
+sqrtUp x =
+    let s : ℕ = sqrtDown x in
+    pick (ltb (s * s) x) (s + 1) s
+
+-- what `sqrtUp x` is, for every x (proofs/Root, `root-up`)
+pub record RootUp (x s : ℕ) : Type 0 where
+  pub high : x ≤ s * s
+  pub least : (t : ℕ) → x ≤ t * t → s ≤ t
+
+unfoldable pub squareRoot : Rounding → ℕ → ℕ
+squareRoot Down x = sqrtDown x
+squareRoot Up x = sqrtUp x
+
+-- "The exponent in units of 2^-24: cLow = floor(C × 2^24 / 10^7), cHigh the same rounded upwards (C in ten-millionths)."
+unfoldable pub exponent : Rounding → ℕ → ℕ
+exponent way C = quotient way (C * 2 ^ 24) (10 ^ 7)
+
+unfoldable pub cLow : ℕ → ℕ
+cLow C = exponent Down C
+
+unfoldable pub cHigh : ℕ → ℕ
+cHigh C = exponent Up C
+
+-- "A product is divided by one."
+unfoldable pub product : Rounding → ℕ → ℕ → ℕ
+product way p r = quotient way (p * r) one
+
+-- "root j (1 to 24) is the square root of root j-1 times one"
+unfoldable pub nextRoot : Rounding → ℕ → ℕ
+nextRoot way r = squareRoot way (r * one)
+
+-- p, "multiplied by r as often as" n says
+unfoldable pub raise : Rounding → (n r p : ℕ) → ℕ
+raise way zero r p = p
+raise way (suc n) r p = raise way n r (product way p r)
+
+-- p on the last k roots, r being the one before them: "If the bit of value 2^(24-j) in the rest of c is set, multiply by root j."
+unfoldable pub climb : Rounding → (k r p c : ℕ) → ℕ
+climb way zero r p c = p
+climb way (suc k) r p c =
+    let root : ℕ = nextRoot way r in
+    climb way k root (pick (eqb (c / 2 ^ k % 2) 1) (product way p root) p) c
+
+-- "The power of r with exponent c starts at one and is multiplied by r as often as c holds 2^24 whole. Root 0 is r"
+unfoldable pub power : Rounding → (r c : ℕ) → ℕ
+power way r c = climb way 24 r (raise way (c / 2 ^ 24) r one) (c % 2 ^ 24)
+
+-- "For pLow, r is floor(N × one / M), c is cHigh and each root and product is rounded down"
+unfoldable pub pLow : (N M C : ℕ) → ℕ
+pLow N M C = power Down (quotient Down (N * one) M) (cHigh C)
+
+-- "for pHigh, r is rounded up, c is cLow and each is rounded up"
+unfoldable pub pHigh : (N M C : ℕ) → ℕ
+pHigh N M C = power Up (quotient Up (N * one) M) (cLow C)
+
+-- "(pLow/one)^(10^7) is at most (N/M)^C, and (pHigh/one)^(10^7) is at least that": over whole numbers, both sides times one^(10^7) × M^C
+unfoldable pub AtMost : (p N M C : ℕ) → Type 0
+AtMost p N M C = p ^ (10 ^ 7) * M ^ C ≤ N ^ C * one ^ (10 ^ 7)
+
+unfoldable pub AtLeast : (p N M C : ℕ) → Type 0
+AtLeast p N M C = N ^ C * one ^ (10 ^ 7) ≤ p ^ (10 ^ 7) * M ^ C
+
+pub record Encloses (N M C low high : ℕ) : Type 0 where
+  pub below : AtMost low N M C
+  pub above : AtLeast high N M C
+
+-- p where N / M is a ratio at most one, and 0 where it is none
+unfoldable pub ofRatio : (N M p : ℕ) → ℕ
+ofRatio N M p = pick (eqb M 0) 0 (pick (ltb M N) 0 p)
+
+unfoldable pub lowerOf : (N M C : ℕ) → ℕ
+lowerOf N M C = ofRatio N M (pLow N M C)
+
+unfoldable pub upperOf : (N M C : ℕ) → ℕ
+upperOf N M C = ofRatio N M (pHigh N M C)
+
+-- what `bounds` promises
+pub record BoundsMet (N M C low high : ℕ) : Type 0 where
+  pub lower : low ≡ lowerOf N M C
+  pub upper : high ≡ upperOf N M C
+  pub encloses : 0 < M → N ≤ M → Encloses N M C low high

@@ -1,0 +1,32 @@
+// Powers of a ratio at most one, rounded down and up, in units of 2^-30: `Profile value`.
+mod ladder;
+mod rounded;
+
+pub use ladder::Bounds;
+use rounded::Rounding;
+ghost use mathlib.Core.Path.{_≡_};
+ghost use Rattle.power.specs.Power.{lowerOf, upperOf, BoundsMet};
+
+// The power of n / m rounded down, its exponent c in ten-millionths; 0 where n / m is no ratio at most one.
+pub fn lower(n: u32, m: u32, c: u32) -> u64
+    ensures { λ r. ⌜ r ≡ lowerOf n m c ⌝ }
+{
+    ladder::bound(Rounding::Down, Rounding::Up, n, m, c)
+}
+
+// The same power rounded up.
+pub fn upper(n: u32, m: u32, c: u32) -> u64
+    ensures { λ r. ⌜ r ≡ upperOf n m c ⌝ }
+{
+    ladder::bound(Rounding::Up, Rounding::Down, n, m, c)
+}
+
+// Both, which enclose the exact power.
+pub fn bounds(n: u32, m: u32, c: u32) -> Bounds
+    ensures { λ r. ⌜ BoundsMet n m c (r .low) (r .high) ⌝ }
+{
+    Bounds {
+        low: lower(n, m, c),
+        high: upper(n, m, c),
+    }
+}
