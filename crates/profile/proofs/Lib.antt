@@ -1,0 +1,5 @@
+pub mod Integer
+pub mod Power
+pub mod Range
+pub mod Tested
+pub mod Bounds

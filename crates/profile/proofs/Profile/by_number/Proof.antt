@@ -1,0 +1,40 @@
+-- `profile::Profile::by_number` meets its contract: above 9 there is no profile in the table, and the limits are the numerals of the definitions.
+-- Assumes nothing.
+use mathlib.Core.Path.{sym}
+use native.Mathlib.Omega.{arith}
+use borrow.Author.Needs.{needs}
+use borrow.Author.Tests.{le-leb, lt-leb}
+use lib.ListN.{List·getD-eq-default}
+use Rattle.profile.specs.Table.{table, noProfile, profileOf}
+use Rattle.profile.proofs.Tested.{profile-tested}
+use Rattle.profile.proofs.Profile.by_number.Statement.{statement}
+use Rattle.profile.proofs.Profile.by_number.Tie as tie
+
+returns : tie.Need-returns
+unfolding profileOf
+returns c =
+    let test = le-leb _ _ (c .if1 .taken) in (
+      record {
+        number = simp test;
+        profile = sym (List·getD-eq-default table noProfile (c .if1 .taken));
+        week = simp test (λ e. absurd (omega arith));
+      },
+      (search needs, search needs),
+    )
+
+row-requires : tie.Need-row-requires
+row-requires c κs = search needs
+
+returns-2 : tie.Need-returns-2
+returns-2 c =
+    let test = lt-leb _ _ (c .before .if1 .left) in (
+      record {
+        number = simp test;
+        profile = c .row .ensures;
+        week = λ e. rw (c .row .ensures) (profile-tested (c .before .before .args .n) (c .before .if1 .left) .week);
+      },
+      (search needs, search needs),
+    )
+
+pub by-number-spec : {M : Type 1} → statement M
+by-number-spec = tie.close (tie.spec returns row-requires returns-2)

@@ -1,0 +1,99 @@
+-- `profile::curve::values_at` meets its contract: its two sums are the values, which fit 64 bits over the whole table.
+-- Assumes nothing.
+use mathlib.Core.Path.{_≡_, _∙_, ap}
+use Prim.Native.Nat.{_^_, _<_}
+use borrow.Author.Needs.{needs}
+use lib.IntN.{_+ℤ_}
+use mir.Facts.{toZ-ofZ}
+use Rattle.power.specs.Power.{one}
+use Rattle.profile.specs.Parts.{SharesMet}
+use Rattle.profile.specs.Table.{profileOf}
+use Rattle.profile.specs.Value.{linear, valueLow, valueHigh}
+use Rattle.profile.specs.declared.Profile.{Profile}
+use Rattle.profile.proofs.Integer.{kept}
+use Rattle.profile.proofs.Tested.{profile-tested}
+use Rattle.profile.proofs.Bounds.{low-share-le, high-share-le, low-fits, high-fits, low-sum, high-sum}
+use Rattle.profile.proofs.curve.values_at.Statement.{statement}
+use Rattle.profile.proofs.curve.values_at.Tie as tie
+
+row-requires : tie.Need-row-requires
+row-requires c κs = search needs
+
+both-shares-requires : tie.Need-both-shares-requires
+both-shares-requires c κs = search needs
+
+linear-at-requires : tie.Need-linear-at-requires
+linear-at-requires c κs = search needs
+
+small : (c : tie.After-row) → c .row .result .a < 2 ^ 24
+small c = rw (c .row .ensures) (profile-tested (c .before .args .number) (c .before .pre .0) .small)
+
+shares : (c : tie.After-both-shares) → SharesMet (c .before .row .result) (c .before .before .args .t) (c .both-shares .result .low) (c .both-shares .result .high)
+shares c = simp (toZ-ofZ (c .before .before .fits .t)) at (c .both-shares .ensures)
+
+rest : (c : tie.After-linear-at) → c .linear-at .result ≡ linear (c .before .before .row .result) (c .before .before .before .args .t)
+rest c = simp (toZ-ofZ (c .before .before .before .fits .t)) at (c .linear-at .ensures)
+
+curve-down-requires : tie.Need-curve-down-requires
+unfolding one
+curve-down-requires c κs = (
+  small (c .before .before),
+  rw (shares (c .before) .low-is) (low-share-le (c .before .before .row .result) (c .before .before .before .args .t)),
+)
+
+low : (c : tie.After-curve-down) → c .curve-down .result +ℤ c .before .linear-at .result ≡ valueLow (profileOf (c .before .before .before .before .args .number)) (c .before .before .before .before .args .t)
+low c =
+    let t = c .before .before .before .before .args .t in
+    low-sum (c .before .before .before .row .result) t (shares (c .before .before) .low-is) (c .curve-down .ensures) (rest (c .before))
+    ∙ ap (λ (p : Profile). valueLow p t) (c .before .before .before .row .ensures)
+
+add-t7 : tie.Need-add-t7
+add-t7 c =
+    let q = c .before .before .before .before in
+    simp (kept (c .curve-down .result) (c .curve-down .ok), kept (c .before .linear-at .result) (c .before .linear-at .ok), low c)
+    (low-fits (q .args .number) (q .args .t) (q .pre .0) (q .pre .1))
+
+curve-up-requires : tie.Need-curve-up-requires
+unfolding one
+curve-up-requires c κs = (
+  small (c .before .before .before),
+  rw (shares (c .before .before) .high-is) (high-share-le (c .before .before .before .row .result) (c .before .before .before .before .args .t)),
+)
+
+high : (c : tie.After-curve-up) → c .curve-up .result +ℤ c .before .before .linear-at .result ≡ valueHigh (profileOf (c .before .before .before .before .before .args .number)) (c .before .before .before .before .before .args .t)
+high c =
+    let t = c .before .before .before .before .before .args .t in
+    high-sum (c .before .before .before .before .row .result) t (shares (c .before .before .before) .high-is) (c .curve-up .ensures) (rest (c .before .before))
+    ∙ ap (λ (p : Profile). valueHigh p t) (c .before .before .before .before .row .ensures)
+
+add-t9 : tie.Need-add-t9
+add-t9 c =
+    let q = c .before .before .before .before .before in
+    simp (kept (c .curve-up .result) (c .curve-up .ok), kept (c .before .before .linear-at .result) (c .before .before .linear-at .ok), high c)
+    (high-fits (q .args .number) (q .args .t) (q .pre .0) (q .pre .1))
+
+returns : tie.Need-returns
+returns c =
+    let q = c .before .before .before .before .before in
+    simp (
+      kept (c .before .curve-down .result) (c .before .curve-down .ok),
+      kept (c .curve-up .result) (c .curve-up .ok),
+      kept (c .before .before .linear-at .result) (c .before .before .linear-at .ok),
+    )
+    (record {
+      low-is = simp (low (c .before)) (toZ-ofZ (low-fits (q .args .number) (q .args .t) (q .pre .0) (q .pre .1)));
+      high-is = simp (high c) (toZ-ofZ (high-fits (q .args .number) (q .args .t) (q .pre .0) (q .pre .1)));
+    })
+
+pub values-at-spec : {M : Type 1} → statement M
+values-at-spec =
+    tie.close
+    (tie.spec
+    row-requires
+    both-shares-requires
+    linear-at-requires
+    curve-down-requires
+    add-t7
+    curve-up-requires
+    add-t9
+    returns)

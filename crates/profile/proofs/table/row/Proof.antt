@@ -1,0 +1,20 @@
+-- `profile::row` meets its contract: the code's table is that of the definitions, by computation.
+-- Assumes nothing.
+use borrow.Author.Needs.{needs}
+use Rattle.profile.specs.Table.{table, noProfile, profileOf}
+use Rattle.profile.proofs.Tested.{getD-any}
+use Rattle.profile.proofs.table.row.Statement.{statement}
+use Rattle.profile.proofs.table.row.Tie as tie
+
+mul-result : tie.Need-mul-result
+mul-result c = search needs
+
+array-copy-out-result : tie.Need-array-copy-out-result
+array-copy-out-result c = search needs
+
+returns : tie.Need-returns
+unfolding profileOf
+returns c = getD-any table (c .before .args .number) _ noProfile (c .before .pre)
+
+pub row-spec : {M : Type 1} → statement M
+row-spec = tie.close (tie.spec mul-result array-copy-out-result returns)

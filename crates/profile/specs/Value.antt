@@ -1,0 +1,67 @@
+-- Profile value: "Written for temperature t in hundredths." Each definition below has its sentence of that section above it.
+use mathlib.Core.Bool.{Bool, cond}
+use Prim.Native.Nat.{ℕ, _+_, _-_, _*_, _/_, _^_}
+use lib.Dec.{leb}
+use lib.IntN.{ℤ, pos, natAbs, _+ℤ_, _-ℤ_, _*ℤ_}
+use lib.Signed.{leZ}
+use Rattle.profile.specs.declared.Profile.{Profile}
+use Rattle.power.specs.Power.{one, pLow, pHigh}
+
+-- a quotient rounded upwards
+abbrev pub upward : ℕ → ℕ → ℕ
+upward x d = (x + (d - 1)) / d
+
+-- "Let b be |B| and u = (4,000 - t) × 100,000": above 0, since t is at most 3,999
+abbrev pub bOf : Profile → ℕ
+bOf p = natAbs (p .b)
+
+abbrev pub uOf : ℤ → ℕ
+uOf t = natAbs (pos 4_000 -ℤ t) * 100_000
+
+-- "Cold side: b at most u, then N = b, M = u. Otherwise warm side: N = u, M = b."
+abbrev pub cold : Profile → ℤ → Bool
+cold p t = leb (bOf p) (uOf t)
+
+abbrev pub ratioN : Profile → ℤ → ℕ
+ratioN p t = cond (cold p t) (bOf p) (uOf t)
+
+abbrev pub ratioM : Profile → ℤ → ℕ
+ratioM p t = cond (cold p t) (uOf t) (bOf p)
+
+abbrev pub lowPower : Profile → ℤ → ℕ
+lowPower p t = pLow (ratioN p t) (ratioM p t) (p .c)
+
+abbrev pub highPower : Profile → ℤ → ℕ
+highPower p t = pHigh (ratioN p t) (ratioM p t) (p .c)
+
+-- "Share s: cold, sLow = floor(2^60 / (one + pHigh)), sHigh is 2^60 / (one + pLow) rounded up;
+-- warm, sLow = floor(pLow × one / (one + pLow)), sHigh the same with pHigh, rounded up."
+abbrev pub sLow : Profile → ℤ → ℕ
+sLow p t =
+    cond (cold p t)
+    (2 ^ 60 / (one + highPower p t))
+    (lowPower p t * one / (one + lowPower p t))
+
+abbrev pub sHigh : Profile → ℤ → ℕ
+sHigh p t =
+    cond (cold p t)
+    (upward (2 ^ 60) (one + lowPower p t))
+    (upward (highPower p t * one) (one + highPower p t))
+
+-- "the larger of mH × t + 100 × bH and mW × t + 100 × bW"
+abbrev pub line : ℤ → ℤ → ℤ → ℤ
+line m b t = m *ℤ t +ℤ pos 100 *ℤ b
+
+abbrev pub larger : ℤ → ℤ → ℤ
+larger x y = cond (leZ x y) y x
+
+-- "100 × D + the larger of" the two lines
+unfoldable pub linear : Profile → ℤ → ℤ
+linear p t = pos (100 * p .d) +ℤ larger (line (p .mh) (p .bh) t) (line (p .mw) (p .bw) t)
+
+-- "The value in units of 10^-9, low and high, is A × 100 × s / one (down for low, up for high) + 100 × D + the larger of" the two lines
+unfoldable pub valueLow : Profile → ℤ → ℤ
+valueLow p t = pos (p .a * 100 * sLow p t / one) +ℤ linear p t
+
+unfoldable pub valueHigh : Profile → ℤ → ℤ
+valueHigh p t = pos (upward (p .a * 100 * sHigh p t) one) +ℤ linear p t

@@ -1,0 +1,131 @@
+// Profiles, profile value and day weight: `Profiles`, `Profile value`.
+mod curve;
+mod table;
+
+ghost use mathlib.Core.Path.{_≡_};
+ghost use Rattle.profile.specs.Limits.{inRange};
+ghost use Rattle.profile.specs.Answers.{ByNumberMet, LimitsMet, WeightLimitsMet, ValueMet, WeightMet};
+
+// One profile: coefficients in ten-millionths, weekday factors in ten-thousandths, Monday first.
+pub struct Profile {
+    pub a: u32,
+    pub b: i32,
+    pub c: u32,
+    pub d: u32,
+    pub mh: i32,
+    pub bh: i32,
+    pub mw: i32,
+    pub bw: i32,
+    pub factors: [u16; 7],
+}
+
+// A profile by number, and beside it the refusal: 0, or 1 with a profile of zeros.
+pub struct Numbered {
+    pub refusal: u8,
+    pub profile: Profile,
+}
+
+// The profile value in units of 10^-9, or the row that declines it: 1, 4.
+pub enum ValueAnswer {
+    Value { low: i64, high: i64 },
+    NoProfile,
+    OutOfRange,
+}
+
+// A day's weight in millionths, or the row that declines it: 1, 2, 4.
+pub enum WeightAnswer {
+    Weight(u32),
+    NoProfile,
+    NoWeekday,
+    OutOfRange,
+}
+
+const NO_PROFILE: Profile = Profile {
+    a: 0,
+    b: 0,
+    c: 0,
+    d: 0,
+    mh: 0,
+    bh: 0,
+    mw: 0,
+    bw: 0,
+    factors: [0; 7],
+};
+
+impl Profile {
+    // The coldest mean, in hundredths of a degree C.
+    pub const COLDEST: i16 = -5_000;
+
+    // The warmest mean.
+    pub const WARMEST: i16 = 3_999;
+
+    // The least weight, in millionths.
+    pub const WEIGHT_LEAST: u32 = 1;
+
+    // The greatest weight.
+    pub const WEIGHT_MOST: u32 = 6_999_999;
+
+    // The days of the longest span.
+    pub const SPAN: usize = 1_096;
+
+    // The number of profiles.
+    pub const COUNT: u8 = 10;
+
+    // The profile of a number, 0 to 9.
+    pub fn by_number(n: u8) -> Numbered
+        ensures { λ r. ⌜ ByNumberMet n r ⌝ }
+        ensures { λ r. do ⌜ LimitsMet (← ⟦Profile::COLDEST⟧ .entry) (← ⟦Profile::WARMEST⟧ .entry) (← ⟦Profile::SPAN⟧ .entry) (← ⟦Profile::COUNT⟧ .entry) ⌝ }
+        ensures { λ r. do ⌜ WeightLimitsMet (← ⟦Profile::WEIGHT_LEAST⟧ .entry) (← ⟦Profile::WEIGHT_MOST⟧ .entry) ⌝ }
+    {
+        if Profile::COUNT <= n {
+            return Numbered {
+                refusal: 1,
+                profile: NO_PROFILE,
+            };
+        }
+        Numbered {
+            refusal: 0,
+            profile: table::row(n),
+        }
+    }
+}
+
+// Whether one mean or temperature is in range.
+pub fn in_range(t: i16) -> bool
+    ensures { λ r. ⌜ r ≡ inRange t ⌝ }
+{
+    Profile::COLDEST <= t && t <= Profile::WARMEST
+}
+
+// The profile value at a temperature, low and high.
+pub fn value(number: u8, t: i16) -> ValueAnswer
+    ensures { λ r. ⌜ ValueMet number t r ⌝ }
+{
+    if Profile::COUNT <= number {
+        return ValueAnswer::NoProfile;
+    }
+    if in_range(t) {
+        let v = curve::values_at(number, t);
+        return ValueAnswer::Value {
+            low: v.low,
+            high: v.high,
+        };
+    }
+    ValueAnswer::OutOfRange
+}
+
+// The weight of one day.
+pub fn day_weight(number: u8, weekday: u8, t: i16) -> WeightAnswer
+    ensures { λ r. ⌜ WeightMet number weekday t r ⌝ }
+{
+    if Profile::COUNT <= number {
+        return WeightAnswer::NoProfile;
+    }
+    if 6 < weekday {
+        return WeightAnswer::NoWeekday;
+    }
+    if in_range(t) {
+        return WeightAnswer::Weight(curve::weight_at(number, weekday, t));
+    }
+    WeightAnswer::OutOfRange
+}

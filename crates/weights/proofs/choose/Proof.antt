@@ -1,0 +1,115 @@
+-- `weights::choose` meets its contract: at each `return` the tests that led there say which row of `chosen` holds.
+-- Assumes nothing.
+use borrow.Author.Needs.{needs}
+use borrow.Author.Tests.{le-leb, lt-leb, leb-true}
+use mathlib.Core.Path.{_≡_, refl, sym, _∙_}
+use mathlib.Core.Bool.{Bool, true, false, _&&_}
+use mathlib.Core.List.{List}
+use Prim.Native.Nat.{ℕ, _+_, _≤_}
+use lib.IntN.{ℤ}
+use lib.ListN.{length}
+use lib.Seq.{length-take-le}
+use Rattle.profile.specs.Limits.{spanMost}
+use Rattle.weights.specs.Choose.{serves}
+use Rattle.weights.proofs.choose.Statement.{statement}
+use Rattle.weights.proofs.choose.Tie as tie
+
+-- a series that serves has so many means
+long : (s : List ℤ) (k : ℕ) → serves s k ≡ true → k ≤ length s
+long s k e = leb-true k (length s) (left _ _ e)
+  where
+    left : (a b : Bool) → a && b ≡ true → a ≡ true
+    left true b e = refl
+    left false b e = e
+
+slice-aggregate-result : tie.Need-slice-aggregate-result
+slice-aggregate-result c = search needs
+
+returns : tie.Need-returns
+returns c =
+    let e = lt-leb 1 _ (c .before .if1 .taken) in
+    record { start-is = simp e; means-are = simp e }
+
+slice-aggregate-result-2 : tie.Need-slice-aggregate-result-2
+slice-aggregate-result-2 c = search needs
+
+returns-2 : tie.Need-returns-2
+returns-2 c =
+    let e = le-leb 1 _ (c .before .before .if1 .left) in
+    let f = lt-leb _ spanMost (c .before .if2 .taken) in
+    record { start-is = simp (e, f); means-are = simp (e, f) }
+
+add-serves : tie.Need-add-serves
+add-serves c = search needs
+
+serves-requires : tie.Need-serves-requires
+serves-requires c κs = search needs
+
+add-result : tie.Need-add-result
+add-result c = search needs
+
+slice-aggregate-result-3 : tie.Need-slice-aggregate-result-3
+slice-aggregate-result-3 c =
+    let a = c .before .before .before .before .before .args in
+    sym (length-take-le _ _ (long (a .measured .now) (a .n + 3) (sym (c .before .before .serves .ensures) ∙ c .before .if3 .taken)))
+
+returns-3 : tie.Need-returns-3
+returns-3 c =
+    let e = le-leb 1 _ (c .before .before .before .before .if1 .left) in
+    let f = le-leb _ spanMost (c .before .before .before .if2 .left) in
+    let m = sym (c .before .before .serves .ensures) ∙ c .before .if3 .taken in
+    record { start-is = simp (e, f, m); means-are = simp (e, f, m) }
+
+add-serves-2 : tie.Need-add-serves-2
+add-serves-2 c = search needs
+
+serves-requires-2 : tie.Need-serves-requires-2
+serves-requires-2 c κs = search needs
+
+add-result-2 : tie.Need-add-result-2
+add-result-2 c = search needs
+
+slice-aggregate-result-4 : tie.Need-slice-aggregate-result-4
+slice-aggregate-result-4 c =
+    let a = c .before .before .before .before .before .before .before .args in
+    sym (length-take-le _ _ (long (a .forecast .now) (a .n + 3) (sym (c .before .before .serves2 .ensures) ∙ c .before .if4 .taken)))
+
+returns-4 : tie.Need-returns-4
+returns-4 c =
+    let e = le-leb 1 _ (c .before .before .before .before .before .before .if1 .left) in
+    let f = le-leb _ spanMost (c .before .before .before .before .before .if2 .left) in
+    let m = sym (c .before .before .before .before .serves .ensures) ∙ c .before .before .before .if3 .left in
+    let p = sym (c .before .before .serves2 .ensures) ∙ c .before .if4 .taken in
+    record { start-is = simp (e, f, m, p); means-are = simp (e, f, m, p) }
+
+slice-aggregate-result-5 : tie.Need-slice-aggregate-result-5
+slice-aggregate-result-5 c = search needs
+
+returns-5 : tie.Need-returns-5
+returns-5 c =
+    let e = le-leb 1 _ (c .before .before .before .before .before .before .if1 .left) in
+    let f = le-leb _ spanMost (c .before .before .before .before .before .if2 .left) in
+    let m = sym (c .before .before .before .before .serves .ensures) ∙ c .before .before .before .if3 .left in
+    let p = sym (c .before .before .serves2 .ensures) ∙ c .before .if4 .left in
+    record { start-is = simp (e, f, m, p); means-are = simp (e, f, m, p) }
+
+pub choose-spec : {M : Type 1} → statement M
+choose-spec =
+    tie.close
+    (tie.spec
+    slice-aggregate-result
+    returns
+    slice-aggregate-result-2
+    returns-2
+    add-serves
+    serves-requires
+    add-result
+    slice-aggregate-result-3
+    returns-3
+    add-serves-2
+    serves-requires-2
+    add-result-2
+    slice-aggregate-result-4
+    returns-4
+    slice-aggregate-result-5
+    returns-5)

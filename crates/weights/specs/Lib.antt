@@ -1,0 +1,5 @@
+-- What the calls of this crate promise: the paper's section `Temperature of a day` and rows 1 to 4 of the table.
+pub mod Means
+pub mod Temperature
+pub mod Choose
+pub mod Weights

@@ -1,0 +1,38 @@
+-- `Temperature of a day`: "With today's mean a and those of one, two and three days before b, c, d, the allocation temperature is
+-- nearest((8a+4b+2c+d)/15)." The table: the index of 4 is "0 to 3 for four means in the order a, b, c, d", "single values refused are zero".
+use mathlib.Core.Path.{_≡_}
+use mathlib.Core.List.{List, [], _∷_}
+use Prim.Native.Nat.{ℕ, _*_}
+use lib.IntN.{ℤ, pos, _+ℤ_, _*ℤ_}
+use Rattle.profile.specs.Weight.{floorℤ}
+use Rattle.weights.specs.Means.{row, firstOut, someOut}
+use Rattle.weights.specs.declared.TemperatureAnswer.{TemperatureAnswer}
+use Rattle.weights.specs.declared.TemperatureAnswer.the-variants.{Temperature, OutOfRange}
+
+-- x / d to the nearest whole number, an exact half going up
+abbrev pub nearestℤ : ℤ → ℕ → ℤ
+nearestℤ x d = floorℤ (pos 2 *ℤ x +ℤ pos d) (2 * d)
+
+unfoldable pub temperatureOf : ℤ → ℤ → ℤ → ℤ → ℤ
+temperatureOf a b c d = nearestℤ (pos 8 *ℤ a +ℤ pos 4 *ℤ b +ℤ pos 2 *ℤ c +ℤ d) 15
+
+-- an answer's number in the table (0: done), its index, and its temperature
+abbrev pub number : TemperatureAnswer → ℕ
+number (Temperature t) = 0
+number (OutOfRange k) = 4
+
+abbrev pub place : TemperatureAnswer → ℕ
+place (Temperature t) = 0
+place (OutOfRange k) = k
+
+abbrev pub value : TemperatureAnswer → ℤ
+value (Temperature t) = t
+value (OutOfRange k) = pos 0
+
+abbrev pub four : ℤ → ℤ → ℤ → ℤ → List ℤ
+four a b c d = a ∷ b ∷ c ∷ d ∷ []
+
+pub record TemperatureMet (a b c d : ℤ) (answer : TemperatureAnswer) : Type 0 where
+  pub number-is : number answer ≡ row (someOut (four a b c d)) 4 0
+  pub place-is : place answer ≡ row (someOut (four a b c d)) (firstOut (four a b c d)) 0
+  pub value-is : value answer ≡ row (someOut (four a b c d)) (pos 0) (temperatureOf a b c d)

@@ -1,0 +1,93 @@
+// Allocation temperatures, the choice of the series of means, and the weights of a span: paper section `Temperature of a day`.
+mod days;
+mod means;
+
+ghost use Rattle.weights.specs.Temperature.{TemperatureMet};
+ghost use Rattle.weights.specs.Choose.{ChooseMet};
+ghost use Rattle.weights.specs.Weights.{WeightsMet};
+use profile::Profile;
+
+pub enum TemperatureAnswer {
+    Temperature(i16),
+    // Which mean, 0 to 3.
+    OutOfRange(u8),
+}
+
+pub enum WeightsAnswer {
+    Done,
+    // Too few or too many means, or an output of another length.
+    Unfit,
+    NoProfile,
+    NoWeekday,
+    // The index of the first such mean.
+    OutOfRange(usize),
+}
+
+// The allocation temperature of four daily means, today's first.
+pub fn temperature(a: i16, b: i16, c: i16, d: i16) -> TemperatureAnswer
+    ensures { λ r. ⌜ TemperatureMet a b c d r ⌝ }
+{
+    if !profile::in_range(a) {
+        return TemperatureAnswer::OutOfRange(0);
+    }
+    if !profile::in_range(b) {
+        return TemperatureAnswer::OutOfRange(1);
+    }
+    if !profile::in_range(c) {
+        return TemperatureAnswer::OutOfRange(2);
+    }
+    if !profile::in_range(d) {
+        return TemperatureAnswer::OutOfRange(3);
+    }
+    TemperatureAnswer::Temperature(means::of_four(a, b, c, d))
+}
+
+// The means of a span of n days: of the measured series if it serves, else of the forecast; none where neither does.
+pub fn choose<'a>(measured: &'a [i16], forecast: &'a [i16], n: usize) -> &'a [i16]
+    ensures { λ r. ⌜ ChooseMet (measured .entry) (forecast .entry) n r ⌝ }
+{
+    if n < 1 {
+        return &measured[..0];
+    }
+    if Profile::SPAN < n {
+        return &measured[..0];
+    }
+    if means::serves(measured, n + 3) {
+        return &measured[..n + 3];
+    }
+    if means::serves(forecast, n + 3) {
+        return &forecast[..n + 3];
+    }
+    &measured[..0]
+}
+
+// The weight of each day of a span, from its means, oldest first, and the weekday of day 0.
+pub fn weights(number: u8, weekday: u8, means: &[i16], out: &mut [u32]) -> WeightsAnswer
+    ensures { λ r. ⌜ WeightsMet number weekday (now (means .entry)) (now (out .entry)) r (now (out .exit)) ⌝ }
+{
+    if means.len() < 4 {
+        return WeightsAnswer::Unfit;
+    }
+    let n = means.len() - 3;
+    if n > Profile::SPAN {
+        return WeightsAnswer::Unfit;
+    }
+    if out.len() != n {
+        return WeightsAnswer::Unfit;
+    }
+    if Profile::COUNT <= number {
+        days::clear(out);
+        return WeightsAnswer::NoProfile;
+    }
+    if 6 < weekday {
+        days::clear(out);
+        return WeightsAnswer::NoWeekday;
+    }
+    let first = means::first_out(means);
+    if first < means.len() {
+        days::clear(out);
+        return WeightsAnswer::OutOfRange(first);
+    }
+    days::fill(number, weekday, means, out);
+    WeightsAnswer::Done
+}

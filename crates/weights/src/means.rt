@@ -1,0 +1,57 @@
+// Daily means: their range, and the rule of four of them. Inside, means are raised by 5,000 and unsigned.
+ghost use mathlib.Core.Path.{_≡_};
+ghost use mathlib.Core.Bool.{true};
+ghost use Prim.Native.Nat.{_<_};
+ghost use lib.IntN.{pos, _+ℤ_};
+ghost use Rattle.profile.specs.Limits.{inRange, coldest};
+ghost use Rattle.weights.specs.Means.{firstOut};
+ghost use Rattle.weights.specs.Temperature.{temperatureOf};
+ghost use Rattle.weights.specs.Choose.{serves};
+use profile::Profile;
+
+// The index of the first mean out of range, or the number of means.
+pub(crate) fn first_out(means: &[i16]) -> usize
+    ensures { λ r. ⌜ r ≡ firstOut (now (means .entry)) ⌝ }
+{
+    let mut k = 0;
+    while k < means.len() {
+        if !profile::in_range(means[k]) {
+            return k;
+        }
+        k += 1;
+    }
+    k
+}
+
+// Whether a series has so many means at its start, all in range.
+pub(crate) fn serves(series: &[i16], count: usize) -> bool
+    ensures { λ r. ⌜ r ≡ serves (now (series .entry)) count ⌝ }
+{
+    if series.len() < count {
+        return false;
+    }
+    first_out(&series[..count]) >= count
+}
+
+// The temperature of four means in range, today's first.
+pub(crate) fn of_four(a: i16, b: i16, c: i16, d: i16) -> i16
+    requires { ⌜ (inRange a ≡ true) × (inRange b ≡ true) × (inRange c ≡ true) × (inRange d ≡ true) ⌝ }
+    ensures { λ r. ⌜ r ≡ temperatureOf a b c d ⌝ }
+{
+    let sum = 8 * raise(a) + 4 * raise(b) + 2 * raise(c) + raise(d);
+    lower((2 * sum + 15) / 30)
+}
+
+fn raise(mean: i16) -> u32
+    requires { ⌜ inRange mean ≡ true ⌝ }
+    ensures { λ r. ⌜ (mean ≡ pos r +ℤ coldest) × (r < 9000) ⌝ }
+{
+    (mean - Profile::COLDEST) as u32
+}
+
+fn lower(raised: u32) -> i16
+    requires { ⌜ raised < 9000 ⌝ }
+    ensures { λ r. ⌜ r ≡ pos raised +ℤ coldest ⌝ }
+{
+    raised as i16 + Profile::COLDEST
+}
