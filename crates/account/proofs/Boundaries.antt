@@ -1,0 +1,282 @@
+-- What the questions about boundaries answer (Account and its calls): every, some, first, last, how many, never falling. Assumes nothing.
+use mathlib.Core.Path.{_≡_, refl, sym, subst}
+use mathlib.Core.Bool.{Bool, true, false, cond, _&&_, _||_, and-false, or-true}
+use mathlib.Core.Logic.{⊎-elim}
+use Prim.Native.Nat.{ℕ, zero, suc, _≤_, _<_}
+use native.Mathlib.Nat.{not-suc-le-zero, eq-or-lt-of-le, le-of-suc-le-suc}
+use native.Mathlib.Omega.{arith}
+use borrow.Author.Tests.{leb-true}
+use Rattle.account.specs.Boundaries.{every, some, howMany, first, last}
+use Rattle.account.specs.Stands.{Readings, neverFalling}
+
+-- a test that is true is not false
+pub clash : {b : Bool} → b ≡ true → b ≡ false → ⊥
+clash t f = let z : _≡_ {A = ℕ} 0 1 = cc in omega arith
+
+pub refuted : (b : Bool) → (b ≡ true → ⊥) → b ≡ false
+refuted true h = absurd (h refl)
+refuted false h = refl
+
+pub both : (a b : Bool) → (a && b) ≡ true → (a ≡ true) × (b ≡ true)
+both true b h = (refl, h)
+both false b h = absurd (clash h refl)
+
+pub neither : (a b : Bool) → (a || b) ≡ false → (a ≡ false) × (b ≡ false)
+neither true b h = absurd (clash refl h)
+neither false b h = (refl, h)
+
+-- what holds below m and at m holds below suc m
+pub below-suc {ℓ} : (P : ℕ → Type ℓ) (m : ℕ) → ((k : ℕ) → k < m → P k) → P m → (k : ℕ) → k < suc m → P k
+below-suc P m all here k h = ⊎-elim (λ e. subst P (sym e) here) (λ lt. all k lt) (eq-or-lt-of-le (le-of-suc-le-suc h))
+
+pub and-left : (a b : Bool) → a && b ≡ true → a ≡ true
+and-left true b h = refl
+and-left false b h = h
+
+pub and-right : (a b : Bool) → a && b ≡ true → b ≡ true
+and-right true b h = h
+and-right false b h = cc
+
+pub or-left : (a b : Bool) → a || b ≡ false → a ≡ false
+or-left true b h = h
+or-left false b h = refl
+
+pub or-right : (a b : Bool) → a || b ≡ false → b ≡ false
+or-right true b h = cc
+or-right false b h = h
+
+-- k is the first boundary at which p holds, and lies below m
+pub record IsFirst (p : ℕ → Bool) (m k : ℕ) : Type 0 where
+  pub below : k < m
+  pub holds : p k ≡ true
+  pub none-before : (j : ℕ) → j < k → p j ≡ false
+
+-- k is the last boundary below m at which p holds
+pub record IsLast (p : ℕ → Bool) (m k : ℕ) : Type 0 where
+  pub below : k < m
+  pub holds : p k ≡ true
+  pub none-after : (j : ℕ) → k < j → j < m → p j ≡ false
+
+module _ (p : ℕ → Bool) where
+  pub every-at : (m : ℕ) → every p m ≡ true → (k : ℕ) → k < m → p k ≡ true
+  unfolding every
+  every-at zero h k lt = absurd (omega arith)
+  every-at (suc m) h k lt = let b = both (every p m) (p m) h in below-suc (λ j. p j ≡ true) m (every-at m (b .0)) (b .1) k lt
+
+  pub none-at : (m : ℕ) → some p m ≡ false → (k : ℕ) → k < m → p k ≡ false
+  unfolding some
+  none-at zero h k lt = absurd (omega arith)
+  none-at (suc m) h k lt = let b = neither (some p m) (p m) h in below-suc (λ j. p j ≡ false) m (none-at m (b .0)) (b .1) k lt
+
+  -- a boundary below m at which p holds
+  pub found : (m : ℕ) → 0 < howMany p m → (k : ℕ) × (k < m) × (p k ≡ true)
+  unfolding howMany
+  found zero h = absurd (omega arith)
+  found (suc m) h = go (λ l. found m l) (p m) refl
+    where
+      go : (0 < howMany p m → (k : ℕ) × (k < m) × (p k ≡ true)) → (b : Bool) → p m ≡ b → (k : ℕ) × (k < suc m) × (p k ≡ true)
+      go rest true e = (m, omega arith, e)
+      go rest false e = let r = rest (omega (arith, rw e at h)) in (r .0, omega (arith, r .1), r .2)
+
+  first-some : (m : ℕ) → some p m ≡ true → IsFirst p m (first p m)
+  unfolding first some
+  first-some zero h = absurd (clash h refl)
+  first-some (suc m) h = go (λ e. first-some m e) (some p m) refl
+    where
+      go : (some p m ≡ true → IsFirst p m (first p m)) → (b : Bool) → some p m ≡ b →
+          IsFirst p (suc m) (cond (some p m) (first p m) (cond (p m) m (suc m)))
+      go rest true e = let r = rest e in rw e (record { below = omega arith; holds = r .holds; none-before = r .none-before })
+      go rest false e =
+          let here : p m ≡ true = rw e at h in
+          rw (e, here) (record { below = omega arith; holds = here; none-before = none-at m e })
+
+  -- where p holds somewhere below m, first and last find it
+  pub first-found : (m k : ℕ) → k < m → p k ≡ true → IsFirst p m (first p m)
+  first-found m k lt h = go (some p m) refl
+    where
+      go : (b : Bool) → some p m ≡ b → IsFirst p m (first p m)
+      go true e = first-some m e
+      go false e = absurd (clash h (none-at m e k lt))
+
+  pub last-found : (m k : ℕ) → k < m → p k ≡ true → IsLast p m (last p m)
+  unfolding last
+  last-found zero k lt h = absurd (omega arith)
+  last-found (suc m) k lt h = go (λ l. last-found m k l h) (p m) refl
+    where
+      go : (k < m → IsLast p m (last p m)) → (b : Bool) → p m ≡ b → IsLast p (suc m) (cond (p m) m (last p m))
+      go rest true e = rw e (record { below = omega arith; holds = e; none-after = λ j a b. absurd (omega arith) })
+      go rest false e =
+          let other : k ≡ m → ⊥ = λ same. clash h (rw (← same) at e) in
+          let r = rest (omega arith) in
+          rw e
+          (record {
+            below = omega arith;
+            holds = r .holds;
+            none-after = λ j a b. below-suc (λ i. last p m < i → p i ≡ false) m (λ i c d. r .none-after i d c) (λ c. e) j b a;
+          })
+
+  -- and there is one such boundary
+  pub first-least : {m f k : ℕ} → IsFirst p m f → p k ≡ true → f ≤ k
+  first-least {k} is h = let no : k < _ → ⊥ = λ lt. clash h (is .none-before k lt) in omega arith
+
+  pub last-most : {m l k : ℕ} → IsLast p m l → k < m → p k ≡ true → k ≤ l
+  last-most {k} is lt h = let no : _ < k → ⊥ = λ after. clash h (is .none-after k after lt) in omega arith
+
+  pub first-is : {m k : ℕ} → IsFirst p m k → first p m ≡ k
+  first-is {m} {k} is =
+      let other = first-found m k (is .below) (is .holds) in
+      omega (arith, first-least other (is .holds), first-least is (other .holds))
+
+  pub last-is : {m k : ℕ} → IsLast p m k → last p m ≡ k
+  last-is {m} {k} is =
+      let other = last-found m k (is .below) (is .holds) in
+      omega (arith, last-most other (is .below) (is .holds), last-most is (other .below) (other .holds))
+
+  pub every-zero : every p 0 ≡ true
+  unfolding every
+  every-zero = refl
+
+  pub every-more : (m : ℕ) → every p m ≡ true → p m ≡ true → every p (suc m) ≡ true
+  unfolding every
+  every-more m e h = rw (e, h)
+
+  pub every-fails : (m k : ℕ) → k < m → p k ≡ false → every p m ≡ false
+  unfolding every
+  every-fails zero k l h = absurd (not-suc-le-zero l)
+  every-fails (suc m) k l h =
+      ⊎-elim
+      (λ q. rw (← q, h) (and-false (every p k)))
+      (λ s. rw (every-fails m k s h))
+      (eq-or-lt-of-le (le-of-suc-le-suc l))
+
+  pub some-zero : some p 0 ≡ false
+  unfolding some
+  some-zero = refl
+
+  pub some-none : (m : ℕ) → some p m ≡ false → p m ≡ false → some p (suc m) ≡ false
+  unfolding some
+  some-none m e h = rw (e, h)
+
+  pub some-at : (m k : ℕ) → k < m → p k ≡ true → some p m ≡ true
+  unfolding some
+  some-at zero k l h = absurd (not-suc-le-zero l)
+  some-at (suc m) k l h =
+      ⊎-elim
+      (λ q. rw (← q, h) (or-true (some p k)))
+      (λ s. rw (some-at m k s h))
+      (eq-or-lt-of-le (le-of-suc-le-suc l))
+
+  pub first-none : (m : ℕ) → some p m ≡ false → first p m ≡ m
+  unfolding some first
+  first-none zero e = refl
+  first-none (suc m) e = rw (or-left (some p m) (p m) e, or-right (some p m) (p m) e)
+
+  pub first-at : (m k : ℕ) → k < m → some p k ≡ false → p k ≡ true → first p m ≡ k
+  unfolding first
+  first-at zero k l e h = absurd (not-suc-le-zero l)
+  first-at (suc m) k l e h =
+      ⊎-elim
+      (λ q. rw (← q, e, h))
+      (λ s. rw (some-at m k s h, first-at m k s e h))
+      (eq-or-lt-of-le (le-of-suc-le-suc l))
+
+  pub last-zero : last p 0 ≡ 0
+  unfolding last
+  last-zero = refl
+
+  pub last-here : {m k : ℕ} → m ≡ suc k → p k ≡ true → last p m ≡ k
+  unfolding last
+  last-here e h = rw (e, h)
+
+  pub last-below : {m k : ℕ} → m ≡ suc k → p k ≡ false → last p m ≡ last p k
+  unfolding last
+  last-below e h = rw (e, h)
+
+  -- no p below k where there is none below a later boundary
+  pub some-less : (m k : ℕ) → k ≤ m → some p m ≡ false → some p k ≡ false
+  unfolding some
+  some-less zero k l e =
+      let none : k ≡ 0 = omega arith in
+      subst (λ (j : ℕ). some p j ≡ false) (sym none) e
+  some-less (suc m) k l e =
+      ⊎-elim
+      (λ q. subst (λ (j : ℕ). some p j ≡ false) (sym q) e)
+      (λ s. some-less m k (le-of-suc-le-suc s) (or-left (some p m) (p m) e))
+      (eq-or-lt-of-le l)
+
+  first-by : (m k : ℕ) (b c : Bool) → some p m ≡ b → p m ≡ c → (k ≤ first p m → some p k ≡ false) → k ≤ cond b (first p m) (cond c m (suc m)) → some p k ≡ false
+  unfolding some
+  first-by m k true c e h below l = below l
+  first-by m k false true e h below l = some-less m k l e
+  first-by m k false false e h below l = some-less (suc m) k l (rw (e, h))
+
+  -- there is none before the first, and it is one
+  pub first-below : (m k : ℕ) → k ≤ first p m → some p k ≡ false
+  unfolding first
+  first-below zero k l = some-less 0 k l (some-zero)
+  first-below (suc m) k l = first-by m k (some p m) (p m) refl refl (first-below m k) l
+
+  some-first : (m : ℕ) → some p m ≡ true → p (first p m) ≡ true
+  unfolding some first
+  some-first zero e = cc
+  some-first (suc m) e = go (some p m) (p m) refl refl (some-first m)
+    where
+      go : (b c : Bool) → some p m ≡ b → p m ≡ c → (some p m ≡ true → p (first p m) ≡ true) → p (cond b (first p m) (cond c m (suc m))) ≡ true
+      go true c f h holds = holds f
+      go false true f h holds = h
+      go false false f h holds = cc
+
+  pub first-holds : (m : ℕ) → first p m < m → p (first p m) ≡ true
+  first-holds m l = some-first m (go (some p m) refl)
+    where
+      go : (b : Bool) → some p m ≡ b → some p m ≡ true
+      go true e = e
+      go false e = let end = first-none m e in absurd (omega arith)
+
+  -- the last is one if it is not 0, and there is none after it
+  pub last-less : (m : ℕ) → 0 < m → last p m < m
+  unfolding last
+  last-less zero l = l
+  last-less (suc m) l = go (p m) m refl (last-less m)
+    where
+      go : (c : Bool) (m : ℕ) → m ≡ m → (0 < m → last p m < m) → cond c m (last p m) < suc m
+      go true m e below = omega arith
+      go false zero e below = omega arith
+      go false (suc m) e below = let s = below (omega arith) in omega arith
+
+  pub last-holds : (m : ℕ) → 0 < last p m → p (last p m) ≡ true
+  unfolding last
+  last-holds zero l = absurd (not-suc-le-zero l)
+  last-holds (suc m) l = go (p m) refl (last-holds m) l
+    where
+      go : (c : Bool) → p m ≡ c → (0 < last p m → p (last p m) ≡ true) → 0 < cond c m (last p m) → p (cond c m (last p m)) ≡ true
+      go true e holds l = e
+      go false e holds l = holds l
+
+  pub last-above : (m j : ℕ) → last p m < j → j < m → p j ≡ false
+  unfolding last
+  last-above zero j g l = absurd (not-suc-le-zero l)
+  last-above (suc m) j g l = go (p m) refl (last-above m j) g
+    where
+      go : (c : Bool) → p m ≡ c → (last p m < j → j < m → p j ≡ false) → cond c m (last p m) < j → p j ≡ false
+      go true e above g = absurd (omega arith)
+      go false e above g =
+          ⊎-elim (λ q. subst (λ (i : ℕ). p i ≡ false) (sym q) e) (λ s. above g s) (eq-or-lt-of-le (le-of-suc-le-suc l))
+
+  pub last-at : (m k : ℕ) → k < m → p k ≡ true → ((j : ℕ) → k < j → j < m → p j ≡ false) → last p m ≡ k
+  unfolding last
+  last-at zero k l e none = absurd (not-suc-le-zero l)
+  last-at (suc m) k l e none =
+      ⊎-elim
+      (λ q. rw (← q, e))
+      (λ s. rw (none m s (omega arith)) (last-at m k s e (λ j g h. none j g (omega arith))))
+      (eq-or-lt-of-le (le-of-suc-le-suc l))
+
+-- a reading has at least what the reading before it has
+pub rising : (r : Readings) (m : ℕ) → neverFalling r m ≡ true → (k : ℕ) → k < m → r .at k ≡ true → r .count (last (r .at) k) ≤ r .count k
+unfolding neverFalling
+rising r zero h k lt at = absurd (omega arith)
+rising r (suc m) h k lt at =
+    let b = both (neverFalling r m) _ h in
+    below-suc (λ j. r .at j ≡ true → r .count (last (r .at) j) ≤ r .count j) m (rising r m (b .0))
+    (λ here. leb-true _ _ (rw here at (b .1))) k lt at

@@ -1,0 +1,12 @@
+pub mod Boundaries
+pub mod Clear
+pub mod Order
+pub mod Sound
+pub mod Pass
+pub mod Rows
+pub mod With
+pub mod Stores
+pub mod Shows
+pub mod Pairs
+pub mod Readings
+pub mod Keeps

@@ -1,0 +1,116 @@
+-- The rows of the table, from the facts that lead to each of them, and back. Assumes nothing.
+use Prim.Native.Nat.{ℕ, suc, _≤_, _<_}
+use native.Mathlib.Numerals.{add-one}
+use native.Mathlib.Omega.{arith}
+use mathlib.Core.Path.{_≡_, refl, sym, ap, ap₂, _∙_}
+use mathlib.Core.Bool.{Bool, true, false, not, _&&_}
+use borrow.Author.Tests.{le-leb, lt-leb, le-ltb, ltb-false, not-false}
+use lib.Dec.{leb, ltb, eqb, lit<}
+use lib.ListN.{length}
+use Rattle.account.specs.Stands.{Readings, lastLessFirst}
+use Rattle.account.specs.Account as accounts
+use Rattle.account.specs.Account.{Account, days, shown, unfit, sound, goodWeights, energyMost}
+use Rattle.account.specs.Table.{row, accountRows}
+use Rattle.account.specs.Slices.{Fit, readsAt, countAt, spread, goodBoundaries, boundaryRows, nextRow}
+use Rattle.account.proofs.Sound.{fit}
+
+-- a row that says nothing: its condition does not hold, and the rows after it say nothing
+pub row-none : (b : Bool) (n rest : ℕ) → 0 < n → row b n rest ≡ 0 → (b ≡ false) × (rest ≡ 0)
+row-none true n rest l e = absurd (omega arith)
+row-none false n rest l e = (refl, e)
+
+pub unfit-rows : (a : Account) (rest : ℕ) → unfit a ≡ true → accountRows a rest ≡ 3
+unfit-rows a rest e = ap (λ (b : Bool). row b 3 (row (not (sound a)) 5 rest)) e
+
+pub unsound-rows : (a : Account) (rest : ℕ) → unfit a ≡ false → sound a ≡ false → accountRows a rest ≡ 5
+unsound-rows a rest e s =
+    ap (λ (b : Bool). row b 3 (row (not (sound a)) 5 rest)) e ∙ ap (λ (b : Bool). row (not b) 5 rest) s
+
+pub sound-rows : (a : Account) (rest : ℕ) → unfit a ≡ false → sound a ≡ true → accountRows a rest ≡ rest
+sound-rows a rest e s =
+    ap (λ (b : Bool). row b 3 (row (not (sound a)) 5 rest)) e ∙ ap (λ (b : Bool). row (not b) 5 rest) s
+
+-- soundness as the code finds it: weights, then marks and counts, then last less first
+pub weights-unsound : (a : Account) → goodWeights (a .weights) ≡ false → sound a ≡ false
+weights-unsound a w = rw w
+
+pub boundaries-unsound : (a : Account) → goodWeights (a .weights) ≡ true → goodBoundaries a ≡ false → sound a ≡ false
+boundaries-unsound a w b = rw (w, b)
+
+-- last less first, as it is asked of the boundaries that the marks have
+pub spread-is : (a : Account) → Fit a → (r : Readings) → spread (r .at) (r .count) (length (a .marks)) ≡ lastLessFirst (days a) r
+unfolding lastLessFirst
+spread-is a f r = ap (spread (r .at) (r .count)) (f .marks ∙ add-one (days a))
+
+module _ (a : Account) (f : Fit a) (x : ℕ) (is : x ≡ spread (readsAt (a .marks)) (countAt (a .counts)) (length (a .marks))) where
+  pub energy-unsound : goodWeights (a .weights) ≡ true → goodBoundaries a ≡ true → energyMost < x → sound a ≡ false
+  energy-unsound w b l = rw (w, b, ← (is ∙ spread-is a f (shown a .readings)), lt-leb x energyMost l)
+
+  pub all-sound : goodWeights (a .weights) ≡ true → goodBoundaries a ≡ true → x ≤ energyMost → sound a ≡ true
+  all-sound w b l = rw (w, b, ← (is ∙ spread-is a f (shown a .readings)), le-leb x energyMost l)
+
+-- what rows 3 and 5 answer does not depend on the rows after them
+pub rows-refuse : (a : Account) (n rest : ℕ) → n ≡ accountRows a 0 → (n ≡ 0 → ⊥) → n ≡ accountRows a rest
+rows-refuse a n rest is some = is ∙ go (unfit a) (sound a) (λ e. some (is ∙ e))
+  where
+    go : (u s : Bool) → (row u 3 (row (not s) 5 0) ≡ 0 → ⊥) → row u 3 (row (not s) 5 0) ≡ row u 3 (row (not s) 5 rest)
+    go true s some = refl
+    go false true some = absurd (some refl)
+    go false false some = refl
+
+pub rows-pass : (a : Account) (n : ℕ) → n ≡ accountRows a 0 → (n ≡ 3 → ⊥) → (n ≡ 5 → ⊥) → n ≡ 0
+rows-pass a n is no3 no5 = is ∙ go (unfit a) (sound a) (λ e. no3 (is ∙ e)) (λ e. no5 (is ∙ e))
+  where
+    go : (u s : Bool) → (row u 3 (row (not s) 5 0) ≡ 3 → ⊥) → (row u 3 (row (not s) 5 0) ≡ 5 → ⊥) → row u 3 (row (not s) 5 0) ≡ 0
+    go true s no3 no5 = absurd (no3 refl)
+    go false true no3 no5 = refl
+    go false false no3 no5 = absurd (no5 refl)
+
+-- an account that rows 3 and 5 let pass
+pub record Checked (a : Account) : Type 0 where
+  pub fits : unfit a ≡ false
+  pub sound : sound a ≡ true
+
+pub checked : (a : Account) (rest : ℕ) → accountRows a rest ≡ 0 → Checked a
+checked a rest e =
+    let u = row-none (unfit a) 3 (row (not (accounts.sound a)) 5 rest) (lit< tt) e in
+    let s = row-none (not (accounts.sound a)) 5 rest (lit< tt) (u .1) in
+    record { fits = u .0; sound = not-false _ (s .0) }
+
+pub rows-through : (a : Account) (rest : ℕ) → Checked a → accountRows a rest ≡ rest
+rows-through a rest h = sound-rows a rest (h .fits) (h .sound)
+
+-- a boundary that rows 3, 5 and 6 let pass
+pub record Allowed (a : Account) (k : ℕ) : Type 0 where
+  pub checked : Checked a
+  pub fit : Fit a
+  pub within : k ≤ days a
+
+module _ (a : Account) (k : ℕ) where
+  pub allowed : (rest : ℕ) → boundaryRows a k rest ≡ 0 → Allowed a k
+  allowed rest e =
+      let c = checked a (row (ltb (days a) k) 6 rest) e in
+      let h = row-none (ltb (days a) k) 6 rest (lit< tt) (sym (rows-through a _ c) ∙ e) in
+      record { checked = c; fit = fit a (c .fits); within = ltb-false _ _ (h .0) }
+
+  pub boundary-through : (rest : ℕ) → Allowed a k → boundaryRows a k rest ≡ rest
+  boundary-through rest h = rows-through a _ (h .checked) ∙ rw (le-ltb (days a) k (h .within))
+
+  -- one row more after these: r is answered where they answered n
+  pub boundary-next : (r n m : ℕ) (b h : Bool) → r ≡ nextRow n b m → n ≡ boundaryRows a k 0 → b ≡ h → r ≡ boundaryRows a k (row h m 0)
+  boundary-next r n m b h is was cond = is ∙ ap₂ (λ (x : ℕ) (y : Bool). nextRow x y m) was cond ∙ go (unfit a) (accounts.sound a) (ltb (days a) k)
+    where
+      go : (u s l : Bool) → nextRow (row u 3 (row (not s) 5 (row l 6 0))) h m ≡ row u 3 (row (not s) 5 (row l 6 (row h m 0)))
+      go true s l = refl
+      go false false l = refl
+      go false true true = refl
+      go false true false = refl
+
+  pub boundary-refuses : (n rest : ℕ) → n ≡ boundaryRows a k 0 → (n ≡ 0 → ⊥) → n ≡ boundaryRows a k rest
+  boundary-refuses n rest is some = is ∙ go (unfit a) (accounts.sound a) (ltb (days a) k) (λ e. some (is ∙ e))
+    where
+      go : (u s l : Bool) → (row u 3 (row (not s) 5 (row l 6 0)) ≡ 0 → ⊥) → row u 3 (row (not s) 5 (row l 6 0)) ≡ row u 3 (row (not s) 5 (row l 6 rest))
+      go true s l some = refl
+      go false false l some = refl
+      go false true true some = refl
+      go false true false some = absurd (some refl)

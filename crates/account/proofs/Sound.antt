@@ -1,0 +1,71 @@
+-- What an account that fits and is sound has: the facts behind `unfit`, `sound` and the rows 3 and 5. Assumes nothing.
+use Prim.Native.Nat.{ℕ, suc, _+_, _≤_, _<_}
+use native.Mathlib.Numerals.{add-one}
+use mathlib.Core.Path.{_≡_, refl, sym, ap, _∙_}
+use mathlib.Core.Bool.{Bool, true, false, not, _&&_, _||_}
+use borrow.Author.Tests.{leb-true, eqb-true, not-false}
+use lib.Dec.{leb, eqb}
+use mathlib.Core.List.{List}
+use lib.ListN.{length, getD}
+use Rattle.profile.specs.Limits.{weightLeast, weightMost, spanMost}
+use Rattle.account.specs.Stands.{neverFalling, lastLessFirst}
+use Rattle.account.specs.Account.{Account, days, shown, badSpan, unfit, sound, goodWeight, goodWeights, goodMarks, zeroCounts, marksReading, energyMost}
+use Rattle.account.specs.Slices.{Fit}
+use Rattle.account.specs.Table.{row, accountRows}
+use Rattle.account.proofs.Boundaries.{and-left, and-right, or-left, or-right, every-at}
+
+pub fit : (a : Account) → unfit a ≡ false → Fit a
+fit a h =
+    let n = days a in
+    let m = not (eqb (length (a .marks)) (n + 1)) in
+    let c = not (eqb (length (a .counts)) (n + 1)) in
+    let rest = or-left (badSpan n || m) c h in
+    let span = not-false (leb 1 n && leb n spanMost) (or-left (badSpan n) m rest) in
+    record {
+      least = leb-true 1 n (and-left (leb 1 n) (leb n spanMost) span);
+      most = leb-true n spanMost (and-right (leb 1 n) (leb n spanMost) span);
+      marks = eqb-true _ _ (not-false _ (or-right (badSpan n) m rest));
+      counts = eqb-true _ _ (not-false _ (or-right (badSpan n || m) c h));
+    }
+
+-- the five parts of soundness
+pub record Sound (a : Account) : Type 0 where
+  pub weights : goodWeights (a .weights) ≡ true
+  pub marks : goodMarks a ≡ true
+  pub zeros : zeroCounts a ≡ true
+  pub order : neverFalling (shown a .readings) (suc (days a)) ≡ true
+  pub energy : lastLessFirst (days a) (shown a .readings) ≤ energyMost
+
+pub sound-parts : (a : Account) → sound a ≡ true → Sound a
+sound-parts a h =
+    let w = goodWeights (a .weights) in
+    let m = goodMarks a in
+    let z = zeroCounts a in
+    let o = neverFalling (shown a .readings) (suc (days a)) in
+    let e = leb (lastLessFirst (days a) (shown a .readings)) energyMost in
+    let h4 = and-left (w && m && z && o) e h in
+    let h3 = and-left (w && m && z) o h4 in
+    let h2 = and-left (w && m) z h3 in
+    record {
+      weights = and-left w m h2;
+      marks = and-right w m h2;
+      zeros = and-right (w && m) z h3;
+      order = and-right (w && m && z) o h4;
+      energy = leb-true _ _ (and-right (w && m && z && o) e h);
+    }
+
+-- what holds of each weight, of each mark, and of each count without a reading
+pub weight-good : (w : List ℕ) → goodWeights w ≡ true → (d : ℕ) → d < length w → (weightLeast ≤ getD w d 0) × (getD w d 0 ≤ weightMost)
+unfolding goodWeights
+weight-good w g d l =
+    let x = getD w d 0 in
+    let h = every-at _ _ g d l in
+    (leb-true _ _ (and-left (leb weightLeast x) (leb x weightMost) h), leb-true _ _ (and-right (leb weightLeast x) (leb x weightMost) h))
+
+pub mark-most : (a : Account) → Sound a → (k : ℕ) → k < suc (days a) → getD (a .marks) k 0 ≤ 3
+unfolding goodMarks
+mark-most a s k l = leb-true _ _ (every-at _ _ (s .marks) k l)
+
+pub count-zero : (a : Account) → Sound a → (k : ℕ) → k < suc (days a) → marksReading (getD (a .marks) k 0) ≡ false → getD (a .counts) k 0 ≡ 0
+unfolding zeroCounts
+count-zero a s k l e = eqb-true _ _ (rw e at (every-at _ _ (s .zeros) k l))

@@ -1,0 +1,43 @@
+-- Short names for the contracts of the private functions, some of which take single slices (Account and its calls).
+use Prim.Native.Nat.{ℕ, suc, _+_, _-_, _≤_}
+use mathlib.Core.Path.{_≡_}
+use mathlib.Core.Bool.{Bool, cond, _&&_}
+use mathlib.Core.List.{List}
+use lib.Dec.{ltb, eqb}
+use lib.ListN.{length, getD}
+use Rattle.profile.specs.Limits.{spanMost}
+use Rattle.account.specs.Boundaries.{first, last}
+use Rattle.account.specs.Stands.{neverFalling}
+use Rattle.account.specs.Account.{Account, days, shown, marksReading, goodMarks, zeroCounts}
+use Rattle.account.specs.Table.{row, accountRows}
+
+-- whether these marks show a reading at k
+abbrev pub readsAt : List ℕ → ℕ → Bool
+readsAt marks k = marksReading (getD marks k 0)
+
+-- the count at k, 0 past the end
+abbrev pub countAt : List ℕ → ℕ → ℕ
+countAt counts k = getD counts k 0
+
+-- last less first, over the boundaries below m
+abbrev pub spread : (ℕ → Bool) → (ℕ → ℕ) → ℕ → ℕ
+spread at count m = count (last at m) - count (first at m)
+
+-- the lengths of an account that fits
+pub record Fit (a : Account) : Type 0 where
+  pub least : 1 ≤ days a
+  pub most : days a ≤ spanMost
+  pub marks : length (a .marks) ≡ days a + 1
+  pub counts : length (a .counts) ≡ days a + 1
+
+-- the part of soundness that one pass over marks and counts shows
+abbrev pub goodBoundaries : Account → Bool
+goodBoundaries a = goodMarks a && zeroCounts a && neverFalling (shown a .readings) (suc (days a))
+
+-- rows 3, 5 and 6, which every call on a boundary has, and then the rest
+abbrev pub boundaryRows : Account → ℕ → ℕ → ℕ
+boundaryRows a k rest = accountRows a (row (ltb (days a) k) 6 rest)
+
+-- after rows that answered n (0 is nothing yet), one row more
+abbrev pub nextRow : ℕ → Bool → ℕ → ℕ
+nextRow n holds refusal = cond (eqb n 0) (row holds refusal 0) n

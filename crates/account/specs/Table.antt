@@ -1,0 +1,76 @@
+-- The table of refusals for the account's calls (If a call declines), row by row in the order in which they are checked.
+-- 0 is done: "a call is accepted if no condition of the table holds for it".
+use Prim.Native.Nat.{ℕ, suc, _+_}
+use mathlib.Core.Bool.{Bool, true, false, not, _&&_, _||_}
+use lib.Dec.{ltb}
+use Rattle.account.specs.Boundaries.{some}
+use Rattle.account.specs.Stands.{Stands, Readings, withReading, lastLessFirst}
+use Rattle.account.specs.Account.{Account, days, shown, unfit, sound, goodWeights, energyMost}
+
+-- the row's number if its condition holds, else what the rows after it say
+abbrev pub row : Bool → ℕ → ℕ → ℕ
+row true number rest = number
+row false number rest = rest
+
+-- 8: "count below an earlier or above a later reading"
+unfoldable pub outOfOrder : ℕ → Readings → ℕ → ℕ → Bool
+outOfOrder n r k v =
+    some (λ j. ltb j k && (r .at j && ltb v (r .count j))) (suc n) ||
+    some (λ j. ltb k j && (r .at j && ltb (r .count j) v)) (suc n)
+
+-- 9: "last less first above 2,000,000,000", the call's own count taken in among those standing
+abbrev pub tooMuch : ℕ → Readings → ℕ → ℕ → Bool
+tooMuch n r k v = ltb energyMost (lastLessFirst n (withReading r k v))
+
+-- the rows for a call on boundary k of an account of n days, over what stands
+abbrev pub readingRows : ℕ → Stands → ℕ → ℕ → ℕ
+readingRows n s k v =
+    row (ltb n k) 6
+    (row (s .readings .at k) 7
+    (row (outOfOrder n (s .readings) k v) 8
+    (row (tooMuch n (s .readings) k v) 9
+    0)))
+
+abbrev pub withdrawRows : ℕ → Stands → ℕ → ℕ
+withdrawRows n s k =
+    row (ltb n k) 6
+    (row (not (s .readings .at k)) 10
+    0)
+
+abbrev pub cutRows : ℕ → Stands → ℕ → ℕ
+cutRows n s k =
+    row (ltb n k) 6
+    (row (s .cut k) 7
+    0)
+
+abbrev pub uncutRows : ℕ → Stands → ℕ → ℕ
+uncutRows n s k =
+    row (ltb n k) 6
+    (row (not (s .cut k)) 10
+    0)
+
+-- 3 and 5 come before the others, and are the same for every call but open
+abbrev pub accountRows : Account → ℕ → ℕ
+accountRows a rest =
+    row (unfit a) 3
+    (row (not (sound a)) 5
+    rest)
+
+-- "Open ..., checking only lengths and weights."
+abbrev pub openNumber : Account → ℕ
+openNumber a =
+    row (unfit a) 3
+    (row (not (goodWeights (a .weights))) 5
+    0)
+
+abbrev pub readingNumber : Account → ℕ → ℕ → ℕ
+readingNumber a k v = accountRows a (readingRows (days a) (shown a) k v)
+
+abbrev pub withdrawNumber : Account → ℕ → ℕ
+withdrawNumber a k = accountRows a (withdrawRows (days a) (shown a) k)
+
+abbrev pub cutNumber : Account → ℕ → ℕ
+cutNumber a k = accountRows a (cutRows (days a) (shown a) k)
+
+abbrev pub uncutNumber : Account → ℕ → ℕ
+uncutNumber a k = accountRows a (uncutRows (days a) (shown a) k)

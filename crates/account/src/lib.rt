@@ -1,0 +1,153 @@
+// The account and its calls on lent slices (Account and its calls, If a call declines).
+// Each contract is one record of specs/Calls.antt: the number answered, and the account's three slices after the call.
+mod marks;
+mod soundness;
+mod table;
+
+use marks::clear_counts;
+use marks::clear_marks;
+use marks::last_less_first;
+use profile::Profile;
+use soundness::good_boundaries;
+use soundness::unfit;
+use table::cut_answer;
+use table::reading_answer;
+use table::uncut_answer;
+use table::withdraw_answer;
+ghost use mathlib.Core.Path.{_≡_};
+ghost use Rattle.account.specs.Account.{account, goodWeights};
+ghost use Rattle.account.specs.Table.{accountRows};
+ghost use Rattle.account.specs.Calls.{number, OpenMet, ReadingMet, WithdrawMet, CutMet, UncutMet};
+
+// What a call answers: done, or a row of the table.
+pub enum Answer {
+    Done,
+    Unfit,
+    Unsound,
+    NoBoundary,
+    AlreadyThere,
+    OutOfOrder,
+    TooMuch,
+    NotThere,
+}
+
+// "Last less first at most 2,000,000,000", in Wh.
+const ENERGY_MOST: u64 = 2_000_000_000;
+
+// Clears marks and counts, whatever they held.
+pub fn open(weights: &[u32], marks: &mut [u8], counts: &mut [u64]) -> Answer
+    ensures { λ r. ⌜ OpenMet (account (now (weights .entry)) (now (marks .entry)) (now (counts .entry))) r (account (now (weights .exit)) (now (marks .exit)) (now (counts .exit))) ⌝ }
+{
+    if unfit(weights, &marks[..], &counts[..]) {
+        return Answer::Unfit;
+    }
+    if !good_weights(weights) {
+        return Answer::Unsound;
+    }
+    clear_marks(marks);
+    clear_counts(counts);
+    Answer::Done
+}
+
+// Sets a reading of count v at boundary k.
+pub fn reading(weights: &[u32], marks: &mut [u8], counts: &mut [u64], k: usize, v: u64) -> Answer
+    ensures { λ r. ⌜ ReadingMet (account (now (weights .entry)) (now (marks .entry)) (now (counts .entry))) k v r (account (now (weights .exit)) (now (marks .exit)) (now (counts .exit))) ⌝ }
+{
+    let answer = reading_answer(weights, &marks[..], &counts[..], k, v);
+    if number_of(answer) == 0 {
+        marks[k] = marks[k] + 2;
+        counts[k] = v;
+        return answer;
+    }
+    answer
+}
+
+// Removes the reading at boundary k and zeroes its count.
+pub fn withdraw(weights: &[u32], marks: &mut [u8], counts: &mut [u64], k: usize) -> Answer
+    ensures { λ r. ⌜ WithdrawMet (account (now (weights .entry)) (now (marks .entry)) (now (counts .entry))) k r (account (now (weights .exit)) (now (marks .exit)) (now (counts .exit))) ⌝ }
+{
+    let answer = withdraw_answer(weights, &marks[..], &counts[..], k);
+    if number_of(answer) == 0 {
+        marks[k] = marks[k] - 2;
+        counts[k] = 0;
+        return answer;
+    }
+    answer
+}
+
+// Sets a cut at boundary k.
+pub fn cut(weights: &[u32], marks: &mut [u8], counts: &[u64], k: usize) -> Answer
+    ensures { λ r. ⌜ CutMet (account (now (weights .entry)) (now (marks .entry)) (now (counts .entry))) k r (account (now (weights .exit)) (now (marks .exit)) (now (counts .exit))) ⌝ }
+{
+    let answer = cut_answer(weights, &marks[..], counts, k);
+    if number_of(answer) == 0 {
+        marks[k] = marks[k] + 1;
+        return answer;
+    }
+    answer
+}
+
+// Removes the cut at boundary k.
+pub fn uncut(weights: &[u32], marks: &mut [u8], counts: &[u64], k: usize) -> Answer
+    ensures { λ r. ⌜ UncutMet (account (now (weights .entry)) (now (marks .entry)) (now (counts .entry))) k r (account (now (weights .exit)) (now (marks .exit)) (now (counts .exit))) ⌝ }
+{
+    let answer = uncut_answer(weights, &marks[..], counts, k);
+    if number_of(answer) == 0 {
+        marks[k] = marks[k] - 1;
+        return answer;
+    }
+    answer
+}
+
+// The rows that every call but open checks first: 3, 5, or 0 for neither.
+pub fn check(weights: &[u32], marks: &[u8], counts: &[u64]) -> u8
+    ensures { λ r. ⌜ r ≡ accountRows (account (now (weights .entry)) (now (marks .entry)) (now (counts .entry))) 0 ⌝ }
+{
+    if unfit(weights, marks, counts) {
+        return 3;
+    }
+    if !good_weights(weights) {
+        return 5;
+    }
+    if !good_boundaries(weights, marks, counts) {
+        return 5;
+    }
+    if ENERGY_MOST < last_less_first(marks, counts) {
+        return 5;
+    }
+    0
+}
+
+// "Weights 1 to 6,999,999."
+pub fn good_weights(weights: &[u32]) -> bool
+    ensures { λ r. ⌜ r ≡ goodWeights (now (weights .entry)) ⌝ }
+{
+    let mut d = 0;
+    while d < weights.len() {
+        let x = weights[d];
+        if x < Profile::WEIGHT_LEAST {
+            return false;
+        }
+        if Profile::WEIGHT_MOST < x {
+            return false;
+        }
+        d += 1;
+    }
+    true
+}
+
+// The paper's number for an answer; 0 is done.
+pub fn number_of(answer: Answer) -> u8
+    ensures { λ r. ⌜ r ≡ number answer ⌝ }
+{
+    match answer {
+        Answer::Done => 0,
+        Answer::Unfit => 3,
+        Answer::Unsound => 5,
+        Answer::NoBoundary => 6,
+        Answer::AlreadyThere => 7,
+        Answer::OutOfOrder => 8,
+        Answer::TooMuch => 9,
+        Answer::NotThere => 10,
+    }
+}

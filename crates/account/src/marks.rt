@@ -1,0 +1,113 @@
+// Readings and cuts as the marks and counts show them (Account and its calls). Every function is total.
+ghost use Prim.Native.Nat.{_-_};
+ghost use mathlib.Core.Path.{_≡_};
+ghost use lib.ListN.{length, getD, replicate};
+ghost use Rattle.account.specs.Boundaries as boundaries;
+ghost use Rattle.account.specs.Account.{marksReading, marksCut};
+ghost use Rattle.account.specs.Slices.{readsAt, countAt, spread};
+
+// "2 reading, 3 both"
+pub fn is_reading(m: u8) -> bool
+    ensures { λ r. ⌜ r ≡ marksReading m ⌝ }
+{
+    if m == 2 {
+        return true;
+    }
+    m == 3
+}
+
+// "1 cut, 3 both"
+pub fn is_cut(m: u8) -> bool
+    ensures { λ r. ⌜ r ≡ marksCut m ⌝ }
+{
+    if m == 1 {
+        return true;
+    }
+    m == 3
+}
+
+// The first boundary with a reading; the number of boundaries where there is none.
+pub fn first_reading(marks: &[u8]) -> usize
+    ensures { λ r. ⌜ r ≡ boundaries.first (readsAt (now (marks .entry))) (length (now (marks .entry))) ⌝ }
+{
+    let mut k = 0;
+    while k < marks.len() {
+        if is_reading(marks[k]) {
+            return k;
+        }
+        k += 1;
+    }
+    k
+}
+
+// The last boundary with a reading; 0 where there is none.
+pub fn last_reading(marks: &[u8]) -> usize
+    ensures { λ r. ⌜ r ≡ boundaries.last (readsAt (now (marks .entry))) (length (now (marks .entry))) ⌝ }
+{
+    let mut k = marks.len();
+    while 0 < k {
+        k -= 1;
+        if is_reading(marks[k]) {
+            return k;
+        }
+    }
+    0
+}
+
+// The mark and the count at boundary k, 0 past the last.
+pub fn mark_at(marks: &[u8], k: usize) -> u8
+    ensures { λ r. ⌜ r ≡ getD (now (marks .entry)) k 0 ⌝ }
+{
+    if k < marks.len() {
+        return marks[k];
+    }
+    0
+}
+
+pub fn count_at(counts: &[u64], k: usize) -> u64
+    ensures { λ r. ⌜ r ≡ countAt (now (counts .entry)) k ⌝ }
+{
+    if k < counts.len() {
+        return counts[k];
+    }
+    0
+}
+
+// What x has above y, 0 where it has none.
+pub fn less(x: u64, y: u64) -> u64
+    ensures { λ r. ⌜ r ≡ x - y ⌝ }
+{
+    if x < y {
+        return 0;
+    }
+    x - y
+}
+
+// The last reading's count less the first one's.
+pub fn last_less_first(marks: &[u8], counts: &[u64]) -> u64
+    ensures { λ r. ⌜ r ≡ spread (readsAt (now (marks .entry))) (countAt (now (counts .entry))) (length (now (marks .entry))) ⌝ }
+{
+    let last = count_at(counts, last_reading(marks));
+    let first = count_at(counts, first_reading(marks));
+    less(last, first)
+}
+
+pub fn clear_marks(marks: &mut [u8])
+    ensures { λ _. ⌜ now (marks .exit) ≡ replicate (length (now (marks .entry))) 0 ⌝ }
+{
+    let mut k = 0;
+    while k < marks.len() {
+        marks[k] = 0;
+        k += 1;
+    }
+}
+
+pub fn clear_counts(counts: &mut [u64])
+    ensures { λ _. ⌜ now (counts .exit) ≡ replicate (length (now (counts .entry))) 0 ⌝ }
+{
+    let mut k = 0;
+    while k < counts.len() {
+        counts[k] = 0;
+        k += 1;
+    }
+}

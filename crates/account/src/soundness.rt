@@ -1,0 +1,52 @@
+// When an account fits and when its marks and counts are sound (Account and its calls).
+use crate::marks::is_reading;
+use profile::Profile;
+ghost use mathlib.Core.Path.{_≡_};
+ghost use Rattle.account.specs.Account as accounts;
+ghost use Rattle.account.specs.Account.{account};
+ghost use Rattle.account.specs.Slices.{Fit, goodBoundaries};
+
+// Row 3: n outside 1 to 1,096, or marks or counts not n+1 long.
+pub fn unfit(weights: &[u32], marks: &[u8], counts: &[u64]) -> bool
+    ensures { λ r. ⌜ r ≡ accounts.unfit (account (now (weights .entry)) (now (marks .entry)) (now (counts .entry))) ⌝ }
+{
+    let n = weights.len();
+    if n < 1 {
+        return true;
+    }
+    if Profile::SPAN < n {
+        return true;
+    }
+    if marks.len() != n + 1 {
+        return true;
+    }
+    counts.len() != n + 1
+}
+
+// In one pass: marks 0 to 3, no count without a reading, readings never falling. `last` is the last reading's count, 0 before the first.
+pub fn good_boundaries(weights: &[u32], marks: &[u8], counts: &[u64]) -> bool
+    requires { ⌜ Fit (account (now weights) (now marks) (now counts)) ⌝ }
+    ensures { λ r. ⌜ r ≡ goodBoundaries (account (now (weights .entry)) (now (marks .entry)) (now (counts .entry))) ⌝ }
+{
+    let mut last: u64 = 0;
+    let mut k = 0;
+    while k <= weights.len() {
+        let m = marks[k];
+        let c = counts[k];
+        if 3 < m {
+            return false;
+        }
+        if is_reading(m) {
+            if c < last {
+                return false;
+            }
+            last = c;
+        } else {
+            if c != 0 {
+                return false;
+            }
+        }
+        k += 1;
+    }
+    true
+}

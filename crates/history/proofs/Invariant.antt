@@ -1,0 +1,61 @@
+-- What holds of the account all along a run (Account and its calls): it fits, is sound, has the weights that open was given, and shows
+-- what stands. Every call keeps that, refused or not. Assumes nothing.
+use Prim.Native.Nat.{ℕ}
+use mathlib.Core.Path.{_≡_, refl, subst₂}
+use mathlib.Core.Bool.{Bool, true, false, cond}
+use mathlib.Core.List.{List, [], _∷_, _++_, map}
+use lib.Dec.{eqb}
+use lib.ListN.{length}
+use borrow.Author.Tests.{eqb-true}
+use Rattle.account.specs.Stands.{Stands}
+use Rattle.account.specs.Account.{Account, days, shown}
+use Rattle.account.specs.Table.{accountRows, readingRows, withdrawRows, cutRows, uncutRows}
+use Rattle.account.specs.Calls.{readingPut, readingTaken, cutPut, cutTaken}
+use Rattle.account.proofs.Rows.{Checked}
+use Rattle.account.proofs.Keeps.{Holds, reading-keeps, withdraw-keeps, cut-keeps, uncut-keeps}
+use Rattle.history.specs.History.{after, ifAccepted, standsFrom}
+use Rattle.history.specs.Run.{Event, Step, Run, call, left, answered, tableSays}
+use Rattle.history.specs.Run as run
+
+same : (a : Account) → Checked a → Holds (a .weights) (shown a) a
+same a f = record { checked = f; weighs = refl; shows = refl }
+
+-- the account after a call on a boundary: changed where the call's own rows do not hold
+changes : (a done b : Account) (changed : Stands) (rows : ℕ) → Checked a → b ≡ cond (eqb (accountRows a rows) 0) done a →
+    (rows ≡ 0 → Holds (a .weights) changed done) → Holds (a .weights) (ifAccepted rows changed (shown a)) b
+changes a done b changed rows f leaves accepted = go (eqb rows 0) refl (rw (f .fits, f .sound) at leaves)
+  where
+    go : (t : Bool) → eqb rows 0 ≡ t → b ≡ cond t done a → Holds (a .weights) (cond t changed (shown a)) b
+    go true e is = rw is (accepted (eqb-true rows 0 e))
+    go false e is = rw is (same a f)
+
+step : (a : Account) (e : Event) → Checked a → Step a e → Holds (a .weights) (after (days a) (shown a) (call e)) (left e)
+step a (run.reading k v r b) f met =
+    changes a (readingPut a k v) b _ (readingRows (days a) (shown a) k v) f (met .leaves) (reading-keeps a f k v)
+step a (run.withdraw k r b) f met =
+    changes a (readingTaken a k) b _ (withdrawRows (days a) (shown a) k) f (met .leaves) (withdraw-keeps a f k)
+step a (run.cut k r b) f met = changes a (cutPut a k) b _ (cutRows (days a) (shown a) k) f (met .leaves) (cut-keeps a f k)
+step a (run.uncut k r b) f met = changes a (cutTaken a k) b _ (uncutRows (days a) (shown a) k) f (met .leaves) (uncut-keeps a f k)
+step a (run.statement o r b out) f met = rw (met .stays) (same a f)
+
+-- the account before each event of a run, and the event's own step from it
+pub along : (w : List ℕ) (s : Stands) (a : Account) → Holds w s a → (before : List Event) (e : Event) (rest : List Event) →
+    Run a (before ++ (e ∷ rest)) → (b : Account) × Holds w (standsFrom (length w) s (map call before)) b × Step b e
+unfolding standsFrom
+along w s a holds [] e rest runs = (a, holds, runs .0)
+along w s a holds (c ∷ before) e rest runs =
+    along w (after (length w) s (call c)) (left c)
+    (subst₂ (λ v t. Holds v (after (length v) t (call c)) (left c)) (holds .weighs) (holds .shows) (step a c (holds .checked) (runs .0)))
+    before e rest (runs .1)
+
+-- a call's answer is what the table, applied to what the account shows, says
+answers : (a : Account) (e : Event) → Checked a → Step a e → answered e ≡ tableSays (days a) (shown a) e
+answers a (run.reading k v r b) f met = rw (f .fits, f .sound) at (met .answers)
+answers a (run.withdraw k r b) f met = rw (f .fits, f .sound) at (met .answers)
+answers a (run.cut k r b) f met = rw (f .fits, f .sound) at (met .answers)
+answers a (run.uncut k r b) f met = rw (f .fits, f .sound) at (met .answers)
+answers a (run.statement o r b out) f met = rw (f .fits, f .sound) at (met .answers)
+
+pub table-says : (w : List ℕ) (s : Stands) (a : Account) (e : Event) → Holds w s a → Step a e → answered e ≡ tableSays (length w) s e
+table-says w s a e holds met =
+    subst₂ (λ v t. answered e ≡ tableSays (length v) t e) (holds .weighs) (holds .shows) (answers a e (holds .checked) met)

@@ -1,0 +1,4 @@
+pub mod Invariant
+pub mod Theorem
+pub mod Ties
+pub mod Opens

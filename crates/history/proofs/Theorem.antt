@@ -1,0 +1,79 @@
+-- Demand 3: `demand3` proves specs/Demand3.antt for every accepted open and every list of calls that runs after it. Assumes nothing.
+use Prim.Native.Nat.{ℕ, _≤_}
+use mathlib.Core.Path.{_≡_, sym, _∙_, subst₂}
+use mathlib.Core.Bool.{true}
+use mathlib.Core.List.{List}
+use lib.Dec.{lit<}
+use lib.ListN.{length}
+use Rattle.account.specs.declared.Answer.{Answer}
+use Rattle.account.specs.Stands.{Stands, nothing}
+use Rattle.account.specs.Account.{Account, days, shown}
+use Rattle.account.specs.Table.{openNumber}
+use Rattle.account.specs.Calls.{OpenMet, number}
+use Rattle.account.proofs.Rows.{Checked, row-none}
+use Rattle.account.proofs.Keeps.{Holds, shown-inside, open-keeps}
+use Rattle.statement.specs.declared.StatementAnswer.the-variants.{Parts}
+use Rattle.statement.specs.Parts.{Outputs, parts, written}
+use Rattle.statement.specs.Call.{StatementMet, unfitOutputs}
+use Rattle.statement.proofs.Order.{Fair, fair-of-sound}
+use Rattle.statement.proofs.Facts.{TwoRead, sums-up, shared, same-energy}
+use Rattle.history.specs.Run.{Event, Step, Run, standing}
+use Rattle.history.specs.Run as run
+use Rattle.history.specs.Demand3.{Demand3, Among, Given}
+use Rattle.history.proofs.Invariant.{along, table-says}
+
+-- a statement of m parts that was given where s stands: the rule's, and all that the rule's facts ask
+record By (w : List ℕ) (s : Stands) (m : ℕ) (out : Outputs) : Type 0 where
+  counts : m ≡ length (parts w s)
+  writes : out ≡ written (length w) (parts w s)
+  two : TwoRead w s
+  fair : Fair w (s .readings)
+  inside : (k : ℕ) → s .readings .at k ≡ true → k ≤ length w
+
+by : (a : Account) (lent : Outputs) (m : ℕ) (b : Account) (out : Outputs) → Checked a → StatementMet a lent (Parts m) b out → By (a .weights) (shown a) m out
+by a lent m b out f met =
+    let rows = row-none (unfitOutputs (days a) lent) _ _ (lit< tt) (sym (rw (f .fits, f .sound) at (met .answers))) in
+    record {
+      counts = rw (← (met .answers)) at (met .counts);
+      writes = rw (← (met .answers)) at (met .writes);
+      two = row-none _ _ _ (lit< tt) (rows .1) .0;
+      fair = fair-of-sound a (f .sound);
+      inside = shown-inside a (f .fits);
+    }
+
+module _ (w : List ℕ) (opened : Account) (start : Holds w nothing opened) (es : List Event) (runs : Run opened es) where
+  before-each : (before : List Event) (e : Event) → Among es before e → (a : Account) × Holds w (standing w before) a × Step a e
+  before-each before e (rest, is) = along w nothing opened start before e rest (rw is at runs)
+
+  given : (before : List Event) (m : ℕ) (out : Outputs) → Given es before m out → By w (standing w before) m out
+  given before m out (lent, b, among) =
+      let (a, holds, met) = before-each before (run.statement lent (Parts m) b out) among in
+      subst₂ (λ v s. By v s m out) (holds .weighs) (holds .shows) (by a lent m b out (holds .checked) met)
+
+  claims : Demand3 w es
+  claims =
+      record {
+        refusals = λ before e among. let (a, holds, met) = before-each before e among in table-says w (standing w before) a e holds met;
+        statements = λ before m out g. let by = given before m out g in (by .counts, by .writes);
+        sums = λ before m out g. let by = given before m out g in rw (by .counts, by .writes) (sums-up w (standing w before) (by .fair) (by .two));
+        shares =
+            λ before m out g i below.
+            let by = given before m out g in
+            rw (by .writes) (shared w (standing w before) (by .fair) (by .two) i (rw (by .counts) at below));
+        boundaries =
+            λ before₁ m₁ out₁ g₁ before₂ m₂ out₂ g₂ p q b adj₁ adj₂ same-p same-q low high mark₁ mark₂.
+            let by₁ = given before₁ m₁ out₁ g₁ in
+            let by₂ = given before₂ m₂ out₂ g₂ in
+            rw (by₁ .counts, by₁ .writes, by₂ .counts, by₂ .writes)
+            (same-energy w (standing w before₁) (standing w before₂) (by₁ .fair) (by₂ .fair) p q b adj₁ adj₂ same-p same-q
+            (by₁ .inside q (adj₁ .other)) low high mark₁ mark₂);
+      }
+
+opens : (before opened : Account) (answer : Answer) → OpenMet before answer opened → number answer ≡ 0 → Holds (before .weights) nothing opened
+opens before opened answer met done =
+    let zero : openNumber before ≡ 0 = sym (met .answers) ∙ done in
+    rw (rw zero at (met .leaves)) (open-keeps before zero)
+
+pub demand3 : (before opened : Account) (answer : Answer) → OpenMet before answer opened → number answer ≡ 0 →
+    (es : List Event) → Run opened es → Demand3 (before .weights) es
+demand3 before opened answer met done es runs = claims (before .weights) opened (opens before opened answer met done) es runs

@@ -1,0 +1,44 @@
+-- Demand 3: one claim about every list of reading, withdraw, cut, uncut and statement calls on a freshly opened account, and all
+-- their answers. `demand3` in proofs/Theorem.antt proves it for every list that runs after an accepted open.
+use Prim.Native.Nat.{ℕ, _≤_, _<_}
+use mathlib.Core.Path.{_≡_}
+use mathlib.Core.Bool.{true}
+use mathlib.Core.List.{List, _∷_, _++_}
+use lib.ListN.{length, getD}
+use Rattle.account.specs.Account.{Account}
+use Rattle.account.specs.Stands.{lastLessFirst}
+use Rattle.statement.specs.declared.StatementAnswer.the-variants.{Parts}
+use Rattle.statement.specs.Parts.{Outputs, parts, written, marked}
+use Rattle.statement.specs.Shares.{Adjacent, Shared, total, energy}
+use Rattle.history.specs.Run.{Event, answered, tableSays, standing}
+use Rattle.history.specs.Run as run
+
+-- e is the event of the list that comes after `before`
+abbrev pub Among : List Event → List Event → Event → Type 0
+Among es before e = (rest : List Event) × (es ≡ before ++ (e ∷ rest))
+
+-- the event of the list that comes after `before` is a statement that was given: m parts, written to `out`
+abbrev pub Given : List Event → List Event → ℕ → Outputs → Type 0
+Given es before m out = (lent : Outputs) × (left : Account) × Among es before (run.statement lent (Parts m) left out)
+
+pub record Demand3 (w : List ℕ) (es : List Event) : Type 0 where
+  -- "A call is refused exactly when and as the table, applied to what stands, says."
+  pub refusals : (before : List Event) (e : Event) → Among es before e → answered e ≡ tableSays (length w) (standing w before) e
+  -- "Every statement given has the number of parts, and the from, to and Wh of each, that the paper's rule gives for what then stands."
+  pub statements : (before : List Event) (m : ℕ) (out : Outputs) → Given es before m out →
+      (m ≡ length (parts w (standing w before))) × (out ≡ written (length w) (parts w (standing w before)))
+  -- "Its parts add up exactly to the last standing reading less the first."
+  pub sums : (before : List Event) (m : ℕ) (out : Outputs) → Given es before m out →
+      total out m ≡ lastLessFirst (length w) (standing w before .readings)
+  -- "Each part is less than 1 Wh from its exact share between its two enclosing readings."
+  pub shares : (before : List Event) (m : ℕ) (out : Outputs) → Given es before m out →
+      (i : ℕ) → i < m → Shared w (standing w before .readings) (getD (out .from) i 0) (getD (out .to) i 0) (getD (out .wh) i 0)
+  -- "Where the same two adjacent readings with the same counts enclose a marked boundary in two statements of the list, the energy
+  -- between the earlier of them and that boundary is the same in both."
+  pub boundaries : (before₁ : List Event) (m₁ : ℕ) (out₁ : Outputs) → Given es before₁ m₁ out₁ →
+      (before₂ : List Event) (m₂ : ℕ) (out₂ : Outputs) → Given es before₂ m₂ out₂ →
+      (p q b : ℕ) → Adjacent (standing w before₁ .readings) p q → Adjacent (standing w before₂ .readings) p q →
+      standing w before₁ .readings .count p ≡ standing w before₂ .readings .count p →
+      standing w before₁ .readings .count q ≡ standing w before₂ .readings .count q →
+      p ≤ b → b ≤ q → marked (standing w before₁) b ≡ true → marked (standing w before₂) b ≡ true →
+      energy out₁ p b m₁ ≡ energy out₂ p b m₂

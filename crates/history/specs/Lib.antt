@@ -1,0 +1,3 @@
+pub mod History
+pub mod Run
+pub mod Demand3

@@ -1,0 +1,75 @@
+-- A run of the calls (Account and its calls): "each is lent the same weights, and the account's other slices as the call before left
+-- them." Every step is the contract record of the function that is called, whatever it is given.
+use Prim.Native.Nat.{ℕ}
+use mathlib.Core.Bool.{Bool}
+use mathlib.Core.List.{List, [], _∷_, map}
+use lib.ListN.{length}
+use Rattle.account.specs.declared.Answer.{Answer}
+use Rattle.account.specs.Stands.{Stands}
+use Rattle.account.specs.Account.{Account}
+use Rattle.account.specs.Table.{row, readingRows, withdrawRows, cutRows, uncutRows}
+use Rattle.account.specs.Calls as calls
+use Rattle.account.specs.Calls.{ReadingMet, WithdrawMet, CutMet, UncutMet}
+use Rattle.statement.specs.declared.StatementAnswer.{StatementAnswer}
+use Rattle.statement.specs.Parts.{Outputs}
+use Rattle.statement.specs.Call.{StatementMet, statementRows, unfitOutputs}
+use Rattle.statement.specs.Call as statements
+use Rattle.history.specs.History.{Call}
+use Rattle.history.specs.History as history
+
+-- a call together with what it answered and left: the account after it, and of a statement the outputs before and after it
+pub data Event : Type 0 where
+  reading : (k v : ℕ) (answer : Answer) (left : Account) → Event
+  withdraw : (k : ℕ) (answer : Answer) (left : Account) → Event
+  cut : (k : ℕ) (answer : Answer) (left : Account) → Event
+  uncut : (k : ℕ) (answer : Answer) (left : Account) → Event
+  statement : (lent : Outputs) (answer : StatementAnswer) (left : Account) (out : Outputs) → Event
+
+-- the call alone, with its arguments
+abbrev pub call : Event → Call
+call (reading k v r a) = Call.reading k v
+call (withdraw k r a) = Call.withdraw k
+call (cut k r a) = Call.cut k
+call (uncut k r a) = Call.uncut k
+call (statement o r a e) = Call.statement
+
+-- the account as the call left it
+abbrev pub left : Event → Account
+left (reading k v r a) = a
+left (withdraw k r a) = a
+left (cut k r a) = a
+left (uncut k r a) = a
+left (statement o r a e) = a
+
+-- the number that the call answered
+abbrev pub answered : Event → ℕ
+answered (reading k v r a) = calls.number r
+answered (withdraw k r a) = calls.number r
+answered (cut k r a) = calls.number r
+answered (uncut k r a) = calls.number r
+answered (statement o r a e) = statements.number r
+
+-- the number that the table, applied to what stands, gives the call over n days: 3 and 5 of the account cannot arise after open
+abbrev pub tableSays : ℕ → Stands → Event → ℕ
+tableSays n s (reading k v r a) = readingRows n s k v
+tableSays n s (withdraw k r a) = withdrawRows n s k
+tableSays n s (cut k r a) = cutRows n s k
+tableSays n s (uncut k r a) = uncutRows n s k
+tableSays n s (statement o r a e) = row (unfitOutputs n o) 3 (statementRows n s)
+
+-- the call meets its contract on the account that it is lent
+abbrev pub Step : Account → Event → Type 0
+Step a (reading k v r b) = ReadingMet a k v r b
+Step a (withdraw k r b) = WithdrawMet a k r b
+Step a (cut k r b) = CutMet a k r b
+Step a (uncut k r b) = UncutMet a k r b
+Step a (statement o r b e) = StatementMet a o r b e
+
+-- each call gets the account as the one before left it
+abbrev pub Run : Account → List Event → Type 0
+Run a [] = Unit {0}
+Run a (e ∷ es) = Step a e × Run (left e) es
+
+-- what stands after these events, from their calls and arguments alone
+abbrev pub standing : List ℕ → List Event → Stands
+standing w es = history.stands (length w) (map call es)

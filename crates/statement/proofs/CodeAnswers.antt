@@ -1,0 +1,92 @@
+-- The answers of a statement (If a call declines): each way to answer meets the call's record. Assumes nothing.
+use mathlib.Core.Path.{_≡_, refl, sym, ap, ap₂, _∙_}
+use mathlib.Core.Bool.{Bool, true, false, not, _||_, or-true}
+use mathlib.Core.List.{[]}
+use Prim.Native.Nat.{ℕ, suc, _-_, _≤_, _<_}
+use native.Mathlib.Nat.{sub-zero}
+use native.Mathlib.Numerals.{add-one}
+use native.Mathlib.Omega.{arith}
+use lib.Dec.{eqb, ltb}
+use lib.ListN.{length, replicate}
+use borrow.Author.Tests.{ne-eqb, eq-eqb, lt-ltb, le-ltb}
+use Rattle.account.specs.Boundaries.{howMany}
+use Rattle.account.specs.Account.{Account, days, shown, unfit, sound}
+use Rattle.account.specs.Slices.{readsAt}
+use Rattle.account.specs.Table.{row, accountRows}
+use Rattle.statement.specs.declared.StatementAnswer.{StatementAnswer}
+use Rattle.statement.specs.declared.StatementAnswer.the-variants.{Parts, Unfit, Unsound, TooFewReadings}
+use Rattle.statement.specs.Parts.{Outputs, outputs, parts, written}
+use Rattle.statement.specs.Call.{StatementMet, unfitOutputs, zeroed}
+use Rattle.statement.specs.Progress.{Checked, Ready, Filled}
+use Rattle.statement.proofs.CodeSound.{checked-fit}
+use Rattle.statement.proofs.CodeWritten.{Long, outputs-same}
+
+-- what the number of the rows 3 and 5 says
+unfit-by : (u s : Bool) → row u 3 (row (not s) 5 0) ≡ 3 → u ≡ true
+unfit-by true s h = refl
+unfit-by false true h = absurd (omega arith)
+unfit-by false false h = absurd (omega arith)
+
+unsound-by : (u s : Bool) → (row u 3 (row (not s) 5 0) ≡ 3 → ⊥) → (row u 3 (row (not s) 5 0) ≡ 0 → ⊥) → (u ≡ false) × (s ≡ false)
+unsound-by true s h k = absurd (h refl)
+unsound-by false true h k = absurd (k refl)
+unsound-by false false h k = (refl, refl)
+
+checked-by : (u s : Bool) → row u 3 (row (not s) 5 0) ≡ 0 → (u ≡ false) × (s ≡ true)
+checked-by true s h = absurd (omega arith)
+checked-by false true h = (refl, refl)
+checked-by false false h = absurd (omega arith)
+
+pub checked : (a : Account) (r : ℕ) → r ≡ accountRows a 0 → r ≡ 0 → Checked a
+checked a r is none = let b = checked-by (unfit a) (sound a) (sym is ∙ none) in record { fits = b .0; good = b .1 }
+
+-- the readings of all boundaries, 0 to n
+pub counted : (a : Account) → Checked a → (r : ℕ) → r ≡ howMany (readsAt (a .marks)) (length (a .marks)) → r ≡ howMany (shown a .readings .at) (suc (days a))
+counted a c r is = is ∙ ap (howMany (readsAt (a .marks))) (checked-fit a c .marks ∙ add-one (days a))
+
+-- outputs that are each n long fit
+long-fit : (n : ℕ) (o : Outputs) → Long n o → unfitOutputs n o ≡ false
+long-fit n o l = rw (eq-eqb _ _ (l .from), eq-eqb _ _ (l .to), eq-eqb _ _ (l .wh))
+
+module _ (a : Account) (o : Outputs) where
+  met-unfit : (unfit a || unfitOutputs (days a) o) ≡ true → StatementMet a o Unfit a o
+  met-unfit h = record { answers = rw h; counts = rw h; stays = refl; writes = rw h }
+
+  pub met-from : (length (o .from) ≡ days a → ⊥) → StatementMet a o Unfit a o
+  met-from h = met-unfit (rw (ne-eqb _ _ h) (or-true (unfit a)))
+
+  pub met-to : length (o .from) ≡ days a → (length (o .to) ≡ days a → ⊥) → StatementMet a o Unfit a o
+  met-to f h = met-unfit (rw (eq-eqb _ _ f, ne-eqb _ _ h) (or-true (unfit a)))
+
+  pub met-wh : length (o .from) ≡ days a → length (o .to) ≡ days a → (length (o .wh) ≡ days a → ⊥) → StatementMet a o Unfit a o
+  met-wh f t h = met-unfit (rw (eq-eqb _ _ f, eq-eqb _ _ t, ne-eqb _ _ h) (or-true (unfit a)))
+
+  pub met-account : (r : ℕ) → r ≡ accountRows a 0 → r ≡ 3 → StatementMet a o Unfit a o
+  met-account r is three = met-unfit (rw (unfit-by (unfit a) (sound a) (sym is ∙ three)))
+
+  pub met-unsound : (r : ℕ) → Long (days a) o → r ≡ accountRows a 0 → (r ≡ 3 → ⊥) → (r ≡ 0 → ⊥) → StatementMet a o Unsound a o
+  met-unsound r l is not-three not-zero =
+      let b = unsound-by (unfit a) (sound a) (λ h. not-three (is ∙ h)) (λ h. not-zero (is ∙ h)) in
+      let f = long-fit (days a) o l in
+      record { answers = rw (b .0, f, b .1); counts = rw (b .0, f, b .1); stays = refl; writes = rw (b .0, f, b .1) }
+
+  pub met-few : Long (days a) o → Checked a → howMany (shown a .readings .at) (suc (days a)) < 2 → (o′ : Outputs) → o′ ≡ zeroed o → StatementMet a o TooFewReadings a o′
+  met-few l c few o′ clear =
+      let f = long-fit (days a) o l in
+      let less = lt-ltb _ _ few in
+      record { answers = rw (c .fits, f, c .good, less); counts = rw (c .fits, f, c .good, less); stays = refl; writes = rw (c .fits, f, c .good, less) clear }
+
+  pub met-parts : Long (days a) o → Checked a → 2 ≤ howMany (shown a .readings .at) (suc (days a)) → (o′ : Outputs) (r : ℕ) → Filled a o′ r → StatementMet a o (Parts r) a o′
+  met-parts l c some o′ r h =
+      let f = long-fit (days a) o l in
+      let more = le-ltb _ _ some in
+      record { answers = rw (c .fits, f, c .good, more); counts = rw (c .fits, f, c .good, more) (h .counts); stays = refl; writes = rw (c .fits, f, c .good, more) (h .holds) }
+
+  pub ready : Long (days a) o → Checked a → 2 ≤ howMany (shown a .readings .at) (suc (days a)) → (o′ : Outputs) → o′ ≡ zeroed o → Ready a o′
+  ready l c some o′ clear =
+      let zeros : (m : ℕ) → m ≡ days a → replicate {A = ℕ} m 0 ≡ replicate (days a - 0) 0 = λ m is. ap (λ (x : ℕ). replicate {A = ℕ} x 0) (is ∙ sym (sub-zero (days a))) in
+      record {
+        checked = c;
+        some = omega arith;
+        clear = clear ∙ outputs-same (zeros _ (l .from)) (zeros _ (l .to)) (zeros _ (l .wh));
+      }

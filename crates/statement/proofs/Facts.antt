@@ -1,0 +1,108 @@
+-- The rule's own facts (Account and its calls, "Statement"; demand 3), for any n, any good weights and any readings that never fall:
+-- the parts add up to last less first, each is less than 1 Wh from its exact share, and the energy from a reading to a marked boundary
+-- is fixed by the two readings that enclose it, their counts and the weights between.
+use mathlib.Core.Path.{_≡_, refl}
+use mathlib.Core.Bool.{true, false}
+use mathlib.Core.List.{List}
+use Prim.Native.Nat.{ℕ, zero, suc, _-_, _≤_, _<_}
+use native.Mathlib.Omega.{arith}
+use lib.Dec.{ltb}
+use lib.ListN.{length, getD}
+use borrow.Author.Tests.{le-leb, ltb-false}
+use Rattle.account.specs.Boundaries.{howMany, last}
+use Rattle.account.specs.Stands.{Stands, Readings, firstReading, lastReading, lastLessFirst}
+use Rattle.account.proofs.Boundaries.{found, first-least, last-found, last-most}
+use Rattle.statement.specs.Split.{weightSum, shareOf, between, earlier, later}
+use Rattle.statement.specs.Parts.{Outputs, marked, parts}
+use Rattle.statement.specs.Shares.{Adjacent, Shared, total, energy}
+use Rattle.statement.proofs.Order.{Fair, Read, read}
+use Rattle.statement.proofs.Has.{has-reading, has-between}
+use Rattle.statement.proofs.Near.{near}
+use Rattle.statement.proofs.Parts.{statementOf, energy-written, each-written}
+use Rattle.statement.proofs.Telescope.{lies, telescopes}
+
+-- where every part lies between a and b, the total is the energy between them
+total-energy : (o : Outputs) (a b m : ℕ) → ((i : ℕ) → i < m → (a ≤ getD (o .from) i 0) × (getD (o .to) i 0 ≤ b)) → total o m ≡ energy o a b m
+unfolding total energy
+total-energy o a b zero inside = refl
+total-energy o a b (suc m) inside =
+    let (lo, hi) = inside m (omega arith) in
+    rw (le-leb a _ lo, le-leb _ b hi, total-energy o a b m (λ i h. inside i (omega arith)))
+
+some-read : (n : ℕ) (r : Readings) → ltb (howMany (r .at) (suc n)) 2 ≡ false → Read n r
+some-read n r two =
+    let k = found (r .at) (suc n) (omega (arith, ltb-false (howMany (r .at) (suc n)) 2 two)) in
+    read n r (k .0) (omega (arith, k .1)) (k .2)
+
+-- fewer than two readings is not the case
+abbrev pub TwoRead : List ℕ → Stands → Type 0
+TwoRead w s = ltb (howMany (s .readings .at) (suc (length w))) 2 ≡ false
+
+module _ (w : List ℕ) (s : Stands) (fair : Fair w (s .readings)) where
+  -- "Its parts add up exactly to the last standing reading less the first."
+  pub sums-up : TwoRead w s → total (statementOf w s) (length (parts w s)) ≡ lastLessFirst (length w) (s .readings)
+  unfolding lastLessFirst
+  sums-up two =
+      let r = s .readings in
+      let n = length w in
+      let is = some-read n r two in
+      let f = firstReading n r in
+      let l = lastReading n r in
+      let f≤l = last-most (r .at) (is .last) (is .first .below) (is .first .holds) in
+      let mark-f : marked s f ≡ true = rw (is .first .holds) in
+      let mark-l : marked s l ≡ true = rw (is .last .holds) in
+      let starts : (k : ℕ) → f < k → f ≤ last (marked s) k =
+      λ k h. last-most (marked s) (last-found (marked s) k f h mark-f) h mark-f in
+      let inside = each-written w s (λ from to wh. (f ≤ from) × (to ≤ l)) (λ k ends. (starts k (ends .after), ends .upto)) in
+      omega (
+        arith,
+        total-energy (statementOf w s) f l (length (parts w s)) inside,
+        energy-written f l n (parts w s),
+        telescopes w s is fair f l mark-f mark-l (omega arith) f≤l (omega arith),
+        has-reading w r f (is .first .holds),
+        has-reading w r l (is .last .holds),
+      )
+
+  -- "Each part is less than 1 Wh from its exact share between its two enclosing readings."
+  pub shared : TwoRead w s → (i : ℕ) → i < length (parts w s) →
+      Shared w (s .readings) (getD (statementOf w s .from) i 0) (getD (statementOf w s .to) i 0) (getD (statementOf w s .wh) i 0)
+  shared two =
+      each-written w s (Shared w (s .readings)) λ k ends.
+      let l = lies w s (some-read (length w) (s .readings) two) k ends in
+      let e = l .encloses in
+      record {
+        p = earlier (s .readings) k;
+        q = later (length w) (s .readings) k;
+        adjacent = e .adjacent;
+        starts = l .starts;
+        ends = e .upto;
+        near = near w (s .readings) fair _ _ (e .adjacent) (e .inside) _ k (l .starts) (omega arith) (e .upto);
+      }
+
+  -- the energy between a reading and a marked boundary is the boundary's share of what the next reading has more
+  pub energy-is : (p q b : ℕ) → Adjacent (s .readings) p q → q ≤ length w → p ≤ b → b ≤ q → marked s b ≡ true →
+      energy (statementOf w s) p b (length (parts w s)) ≡
+      shareOf (s .readings .count q - s .readings .count p) (weightSum w p b) (weightSum w p q)
+  unfolding between
+  energy-is p q b a inside low high mark =
+      let r = s .readings in
+      let is = read (length w) r q inside (a .other) in
+      let mark-p : marked s p ≡ true = rw (a .one) in
+      let from = first-least (r .at) (is .first) (a .one) in
+      let upto = last-most (r .at) (is .last) (omega arith) (a .other) in
+      omega (
+        arith,
+        energy-written p b (length w) (parts w s),
+        telescopes w s is fair p b mark-p mark from low (omega arith),
+        has-reading w r p (a .one),
+        has-between w r fair p q a inside b low high,
+      )
+
+-- "Where the same two adjacent readings with the same counts enclose a marked boundary in two statements .., the energy between the
+-- earlier of them and that boundary is the same in both."
+pub same-energy : (w : List ℕ) (s t : Stands) → Fair w (s .readings) → Fair w (t .readings) → (p q b : ℕ) →
+    Adjacent (s .readings) p q → Adjacent (t .readings) p q → s .readings .count p ≡ t .readings .count p →
+    s .readings .count q ≡ t .readings .count q → q ≤ length w → p ≤ b → b ≤ q → marked s b ≡ true → marked t b ≡ true →
+    energy (statementOf w s) p b (length (parts w s)) ≡ energy (statementOf w t) p b (length (parts w t))
+same-energy w s t fair-s fair-t p q b adj-s adj-t same-p same-q inside low high mark-s mark-t =
+    rw (energy-is w s fair-s p q b adj-s inside low high mark-s, energy-is w t fair-t p q b adj-t inside low high mark-t, same-p, same-q)

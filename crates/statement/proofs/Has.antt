@@ -1,0 +1,83 @@
+-- What a boundary has (Account and its calls, "Statement"): at a reading its count, and from reading to reading one formula, both ends
+-- included. It never falls, and depends only on the two enclosing readings, their counts and the weights between.
+use mathlib.Core.Path.{_≡_, sym, _∙_}
+use mathlib.Core.Bool.{true}
+use mathlib.Core.List.{List}
+use mathlib.Core.Logic.{⊎-elim}
+use Prim.Native.Nat.{ℕ, _-_, _*_, _≤_, _<_}
+use native.Mathlib.Nat.{eq-or-lt-of-le, mul-le-mul-left}
+use native.Mathlib.Omega.{arith}
+use lib.ListN.{length, getD}
+use Rattle.rounding.proofs.Laws.{nearest-multiple, nearest-mono}
+use Rattle.account.specs.Stands.{Readings}
+use Rattle.statement.specs.Split.{weightSum, shareOf, between, has}
+use Rattle.statement.specs.Shares.{Adjacent}
+use Rattle.statement.proofs.Order.{Fair, Encloses, earlier-is, later-is, adjacent-rise}
+use Rattle.statement.proofs.Sums.{sum-empty, sum-splits, sum-positive, sum-same}
+
+pub share-none : (e z : ℕ) → 0 < z → shareOf e 0 z ≡ 0
+unfolding shareOf
+share-none e z pos = let same : e * 0 ≡ 0 * z = omega arith in rw same (nearest-multiple 0 z pos)
+
+pub share-all : (e z : ℕ) → 0 < z → shareOf e z z ≡ e
+unfolding shareOf
+share-all e z pos = nearest-multiple e z pos
+
+pub share-mono : (e x y z : ℕ) → x ≤ y → shareOf e x z ≤ shareOf e y z
+unfolding shareOf
+share-mono e x y z h = nearest-mono (e * x) (e * y) z (mul-le-mul-left e h)
+
+pub has-reading : (w : List ℕ) (r : Readings) (k : ℕ) → r .at k ≡ true → has w r k ≡ r .count k
+unfolding has
+has-reading w r k at = rw at
+
+module _ (w : List ℕ) (r : Readings) (fair : Fair w r) (p q : ℕ) (a : Adjacent r p q) (inside : q ≤ length w) where
+  whole : 0 < weightSum w p q
+  whole = sum-positive w (fair .weights) p q (a .ordered) inside
+
+  at-end : between w r p q q ≡ r .count q
+  unfolding between
+  at-end = omega (arith, share-all (r .count q - r .count p) (weightSum w p q) whole, adjacent-rise w r fair p q a inside)
+
+  at-start : between w r p q p ≡ r .count p
+  unfolding between
+  at-start =
+      let none : shareOf (r .count q - r .count p) (weightSum w p p) (weightSum w p q) ≡ 0 =
+      rw (sum-empty w p p (omega arith)) (share-none _ _ whole) in
+      omega arith
+
+  strictly : (k : ℕ) → p < k → k < q → has w r k ≡ between w r p q k
+  unfolding has
+  strictly k low high =
+      let e : Encloses (length w) r p q k = record { adjacent = a; after = low; upto = omega arith; inside = inside } in
+      rw (a .none-between k low high, earlier-is (length w) r p q k e, later-is (length w) r p q k e)
+
+  -- what a boundary has, from the reading at p to the reading at q
+  pub has-between : (k : ℕ) → p ≤ k → k ≤ q → has w r k ≡ between w r p q k
+  has-between k low high =
+      ⊎-elim (λ start. rw (← start) (has-reading w r p (a .one) ∙ sym at-start))
+      (λ after.
+      ⊎-elim (λ end. rw end (has-reading w r q (a .other) ∙ sym at-end)) (λ before. strictly k after before) (eq-or-lt-of-le high))
+      (eq-or-lt-of-le low)
+
+  pub has-mono : (j k : ℕ) → p ≤ j → j ≤ k → k ≤ q → has w r j ≤ has w r k
+  unfolding between
+  has-mono j k low le high =
+      let more : weightSum w p j ≤ weightSum w p k = omega (arith, sum-splits w p j k low le) in
+      rw (has-between j low (omega arith), has-between k (omega arith) high)
+      (omega (arith, share-mono (r .count q - r .count p) _ _ (weightSum w p q) more))
+
+-- what a boundary has depends only on its two enclosing readings, their counts and the weights between
+pub has-only : (v w : List ℕ) (r s : Readings) → Fair v r → Fair w s → (p q : ℕ) → Adjacent r p q → Adjacent s p q →
+    q ≤ length v → q ≤ length w → r .count p ≡ s .count p → r .count q ≡ s .count q →
+    ((d : ℕ) → p ≤ d → d < q → getD v d 0 ≡ getD w d 0) → (k : ℕ) → p ≤ k → k ≤ q → has v r k ≡ has w s k
+unfolding between
+has-only v w r s fair-r fair-s p q adj-r adj-s in-v in-w same-p same-q same k low high =
+    rw (
+      has-between v r fair-r p q adj-r in-v k low high,
+      has-between w s fair-s p q adj-s in-w k low high,
+      same-p,
+      same-q,
+      sum-same v w p q same,
+      sum-same v w p k (λ d lo hi. same d lo (omega arith)),
+    )

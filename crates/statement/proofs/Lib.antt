@@ -1,0 +1,13 @@
+pub mod Order
+pub mod Sums
+pub mod Has
+pub mod Near
+pub mod Parts
+pub mod Telescope
+pub mod Facts
+pub mod CodeSums
+pub mod CodeSound
+pub mod CodeWritten
+pub mod CodeInterval
+pub mod CodeFill
+pub mod CodeAnswers

@@ -1,0 +1,98 @@
+-- Which readings enclose a boundary (Account and its calls, "Statement"): adjacent readings, earlier and later, first and last.
+use mathlib.Core.Path.{_≡_}
+use mathlib.Core.Bool.{Bool, true, _&&_}
+use mathlib.Core.List.{List}
+use Prim.Native.Nat.{ℕ, suc, _≤_, _<_}
+use native.Mathlib.Omega.{arith}
+use lib.Dec.{leb}
+use lib.ListN.{length}
+use borrow.Author.Tests.{le-leb, leb-true}
+use Rattle.account.specs.Stands.{Readings, neverFalling, firstReading, lastReading}
+use Rattle.account.specs.Account.{Account, days, shown, sound, goodWeights, goodMarks, zeroCounts}
+use Rattle.account.proofs.Boundaries.{IsFirst, IsLast, both, clash, refuted, first-found, first-is, first-least, last-found, last-is, last-most, rising}
+use Rattle.statement.specs.Split.{earlier, later}
+use Rattle.statement.specs.Shares.{Adjacent}
+
+-- all that the rule's own facts ask of the weights and of the readings that stand
+pub record Fair (w : List ℕ) (r : Readings) : Type 0 where
+  pub weights : goodWeights w ≡ true
+  pub rises : neverFalling r (suc (length w)) ≡ true
+
+pub fair-of-sound : (a : Account) → sound a ≡ true → Fair (a .weights) (shown a .readings)
+fair-of-sound a h =
+    let weights = goodWeights (a .weights) in
+    let zeros = weights && goodMarks a && zeroCounts a in
+    let falls = both zeros _ (both (zeros && neverFalling (shown a .readings) (suc (days a))) _ h .0) in
+    record { weights = both weights _ (both (weights && goodMarks a) _ (falls .0) .0) .0; rises = falls .1 }
+
+-- p and q are the adjacent readings with p < k ≤ q, in an account of n days
+pub record Encloses (n : ℕ) (r : Readings) (p q k : ℕ) : Type 0 where
+  pub adjacent : Adjacent r p q
+  pub after : p < k
+  pub upto : k ≤ q
+  pub inside : q ≤ n
+
+module _ (n : ℕ) (r : Readings) where
+  pub earlier-is : (p q k : ℕ) → Encloses n r p q k → earlier r k ≡ p
+  earlier-is p q k e =
+      last-is (r .at)
+      (record { below = e .after; holds = e .adjacent .one; none-after = λ j lo hi. e .adjacent .none-between j lo (omega arith) })
+
+  pub later-is : (p q k : ℕ) → Encloses n r p q k → later n r k ≡ q
+  later-is p q k e =
+      first-is (λ j. leb k j && r .at j)
+      (record {
+        below = omega arith;
+        holds = rw (le-leb k q (e .upto)) (e .adjacent .other);
+        none-before =
+            λ j lt. refuted _ λ h.
+            let b = both (leb k j) (r .at j) h in
+            clash (b .1) (e .adjacent .none-between j (omega (arith, leb-true k j (b .0))) lt);
+      })
+
+  -- a boundary after one reading and not after another is enclosed by its earlier and its later reading
+  pub enclosed : (f l k : ℕ) → r .at f ≡ true → r .at l ≡ true → f < k → k ≤ l → l ≤ n → Encloses n r (earlier r k) (later n r k) k
+  enclosed f l k at-f at-l after upto inside =
+      let p = last-found (r .at) k f after at-f in
+      let test : ℕ → Bool = λ j. leb k j && r .at j in
+      let q = first-found test (suc n) l (omega arith) (rw (le-leb k l upto) at-l) in
+      let q-is = both (leb k (later n r k)) (r .at (later n r k)) (q .holds) in
+      let k≤q = leb-true k (later n r k) (q-is .0) in
+      record {
+        adjacent =
+            record {
+              ordered = omega arith;
+              one = p .holds;
+              other = q-is .1;
+              none-between =
+                  λ j lo hi. refuted _ λ h.
+                  let late : j < k → ⊥ = λ lt. clash h (p .none-after j lo lt) in
+                  let k≤j : k ≤ j = omega arith in
+                  clash h (rw (le-leb k j k≤j) at (q .none-before j hi));
+            };
+        after = p .below;
+        upto = k≤q;
+        inside = omega arith;
+      }
+
+-- readings stand in an account of n days: there is a first and a last
+pub record Read (n : ℕ) (r : Readings) : Type 0 where
+  pub first : IsFirst (r .at) (suc n) (firstReading n r)
+  pub last : IsLast (r .at) (suc n) (lastReading n r)
+
+pub read : (n : ℕ) (r : Readings) (k : ℕ) → k ≤ n → r .at k ≡ true → Read n r
+read n r k h at =
+    record { first = first-found (r .at) (suc n) k (omega arith) at; last = last-found (r .at) (suc n) k (omega arith) at }
+
+-- the first reading is not after a reading, and the last not before it
+pub first-before : (n : ℕ) (r : Readings) (k : ℕ) → k ≤ n → r .at k ≡ true → firstReading n r ≤ k
+first-before n r k h at = first-least (r .at) (read n r k h at .first) at
+
+pub last-after : (n : ℕ) (r : Readings) (k : ℕ) → k ≤ n → r .at k ≡ true → k ≤ lastReading n r
+last-after n r k h at = last-most (r .at) (read n r k h at .last) (omega arith) at
+
+module _ (w : List ℕ) (r : Readings) (fair : Fair w r) where
+  pub adjacent-rise : (p q : ℕ) → Adjacent r p q → q ≤ length w → r .count p ≤ r .count q
+  adjacent-rise p q a h =
+      let is = earlier-is (length w) r p q q (record { adjacent = a; after = a .ordered; upto = omega arith; inside = h }) in
+      rw is at (rising r (suc (length w)) (fair .rises) q (omega arith) (a .other))

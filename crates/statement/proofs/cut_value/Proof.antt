@@ -1,0 +1,29 @@
+-- `statement::cut_value` meets its contract: e × zk fits 64 bits, and a share is at most e. Assumes nothing.
+use Prim.Native.Nat.{ℕ, _*_}
+use native.Mathlib.Nat.{mul-le-mul}
+use native.Mathlib.Omega.{arith}
+use borrow.Author.Needs.{needs}
+use Rattle.statement.specs.Split.{shareOf}
+use Rattle.statement.proofs.CodeSums.{share-most}
+use Rattle.statement.proofs.cut_value.Statement.{statement}
+use Rattle.statement.proofs.cut_value.Tie as tie
+
+mul-nearest-of : tie.Need-mul-nearest-of
+mul-nearest-of c = omega (arith, mul-le-mul (c .pre .energy) (c .pre .share), mul-le-mul (c .pre .energy) (c .pre .sum))
+
+nearest-of-requires : tie.Need-nearest-of-requires
+nearest-of-requires c κs = search needs
+
+add-result : tie.Need-add-result
+unfolding shareOf
+add-result c =
+    let a = c .before .args in
+    let pre = c .before .pre in
+    omega (arith, share-most (a .e) (a .zk) (a .z) (pre .some) (pre .share), c .nearest-of .ensures)
+
+returns : tie.Need-returns
+unfolding shareOf
+returns c = rw (c .nearest-of .ensures)
+
+pub cut-value-spec : {M : Type 1} → statement M
+cut-value-spec = tie.close (tie.spec mul-nearest-of nearest-of-requires add-result returns)

@@ -1,0 +1,13 @@
+-- `statement::is_reading` meets its contract: its two tests are those of `marksReading`. Assumes nothing.
+use borrow.Author.Tests.{eq-eqb, ne-eqb}
+use Rattle.statement.proofs.is_reading.Statement.{statement}
+use Rattle.statement.proofs.is_reading.Tie as tie
+
+returns : tie.Need-returns
+returns c = simp (eq-eqb _ _ (c .if1 .taken))
+
+returns-2 : tie.Need-returns-2
+returns-2 c = simp (ne-eqb _ _ (c .if1 .left))
+
+pub is-reading-spec : {M : Type 1} → statement M
+is-reading-spec = tie.close (tie.spec returns returns-2)

@@ -1,0 +1,136 @@
+-- `statement::statement` meets its contract: each way to answer is one law of CodeAnswers. Assumes nothing.
+use mathlib.Core.Path.{_≡_, sym, ap, _∙_}
+use Prim.Native.Nat.{suc}
+use native.Mathlib.Omega.{arith}
+use Rattle.account.specs.Boundaries.{howMany}
+use Rattle.account.specs.Account.{Account, account, days, shown}
+use Rattle.statement.specs.Parts.{Outputs, outputs}
+use Rattle.statement.specs.Call.{zeroed}
+use Rattle.statement.specs.Progress.{Checked}
+use Rattle.statement.proofs.CodeWritten.{Long, outputs-same}
+use Rattle.statement.proofs.CodeAnswers.{met-from, met-to, met-wh, met-account, met-unsound, checked, counted, met-few, met-parts, ready}
+use borrow.Author.Needs.{needs}
+use Rattle.statement.proofs.statement.Statement.{statement}
+use Rattle.statement.proofs.statement.Tie as tie
+use Rattle.statement.proofs.statement.Reads as reads
+use Rattle.statement.proofs.statement.Lts as lts
+use Rattle.account.proofs.check.Reads as check-reads
+use Rattle.statement.proofs.clear_boundaries.Reads as clear-boundaries-reads
+use Rattle.statement.proofs.clear_energies.Reads as clear-energies-reads
+use Rattle.statement.proofs.count_readings.Reads as count-readings-reads
+use Rattle.statement.proofs.fill.Reads as fill-reads
+
+-- what was lent
+abbrev lent : tie.Start → Account
+lent c = account (c .args .weights .now) (c .args .marks .now) (c .args .counts .now)
+
+abbrev given : tie.Start → Outputs
+given c = outputs (c .args .from .now) (c .args .to .now) (c .args .wh .now)
+
+-- past row 3 of the outputs, past rows 3 and 5 of the account, and with the outputs cleared and the readings counted
+abbrev start : tie.Else3 → tie.Start
+start c = c .before .before .before .before .before .before .before .before .before
+
+long : (c : tie.Else3) → Long (days (lent (start c))) (given (start c))
+long c = record { from = c .before .before .if1 .left; to = c .before .if2 .left; wh = c .if3 .left }
+
+sound : (c : tie.Else5) → Checked (lent (start (c .before .before .before)))
+sound c = checked _ _ (c .before .before .check .ensures) (c .if5 .left)
+
+abbrev clear : (c : tie.After-count-readings) → tie.Else5
+clear c = c .before .before .before .before .before .before .before .before .before .before .before .before .before
+
+readings : (c : tie.After-count-readings) → c .count-readings .result ≡ howMany (shown (lent (start (clear c .before .before .before))) .readings .at) (suc (days (lent (start (clear c .before .before .before)))))
+readings c = counted _ (sound (clear c)) _ (c .count-readings .ensures)
+
+cleared : (c : tie.After-count-readings) →
+    outputs (c .before .before .before .before .before .before .before .before .before .before .before .clear-boundaries .last .0) (c .before .before .before .before .before .before .before .clear-boundaries2 .last .0) (c .before .before .before .clear-energies .last .0) ≡ zeroed (given (start (clear c .before .before .before)))
+cleared c = outputs-same (c .before .before .before .before .before .before .before .before .before .before .before .clear-boundaries .ensures) (c .before .before .before .before .before .before .before .clear-boundaries2 .ensures) (c .before .before .before .clear-energies .ensures)
+
+returns : tie.Need-returns
+returns c = met-from _ _ (c .if1 .taken)
+
+returns-2 : tie.Need-returns-2
+returns-2 c = met-to _ _ (c .before .if1 .left) (c .if2 .taken)
+
+returns-3 : tie.Need-returns-3
+returns-3 c = met-wh _ _ (c .before .before .if1 .left) (c .before .if2 .left) (c .if3 .taken)
+
+check-requires : tie.Need-check-requires
+check-requires c κs = search needs
+
+returns-4 : tie.Need-returns-4
+returns-4 c = met-account _ _ _ (c .before .check .ensures) (c .if4 .taken)
+
+returns-5 : tie.Need-returns-5
+returns-5 c = met-unsound _ _ _ (long (c .before .before .before)) (c .before .before .check .ensures) (c .before .if4 .left) (c .if5 .taken)
+
+clear-boundaries-requires : tie.Need-clear-boundaries-requires
+clear-boundaries-requires c κs = search needs
+
+clear-boundaries-requires-2 : tie.Need-clear-boundaries-requires-2
+clear-boundaries-requires-2 c κs = search needs
+
+clear-energies-requires : tie.Need-clear-energies-requires
+clear-energies-requires c κs = search needs
+
+count-readings-requires : tie.Need-count-readings-requires
+count-readings-requires c κs = search needs
+
+same-length : tie.Need-same-length
+same-length c = search needs
+
+same-length-2 : tie.Need-same-length-2
+same-length-2 c = search needs
+
+same-length-3 : tie.Need-same-length-3
+same-length-3 c = search needs
+
+returns-6 : tie.Need-returns-6
+returns-6 c =
+    let at = c .before in
+    met-few _ _ (long (clear at .before .before .before)) (sound (clear at)) (omega (arith, readings at)) _ (cleared at)
+
+fill-requires : tie.Need-fill-requires
+fill-requires c κs =
+    let at = c .before .before .before .before in
+    ready _ _ (long (clear at .before .before .before)) (sound (clear at)) (omega (arith, readings at)) _ (cleared at)
+
+same-length-4 : tie.Need-same-length-4
+same-length-4 c = search needs
+
+same-length-5 : tie.Need-same-length-5
+same-length-5 c = search needs
+
+same-length-6 : tie.Need-same-length-6
+same-length-6 c = search needs
+
+returns-7 : tie.Need-returns-7
+returns-7 c =
+    let call = c .before .before .before .before .before .before in
+    let at = call .before .before .before .before .before in
+    met-parts _ _ (long (clear at .before .before .before)) (sound (clear at)) (omega (arith, readings at)) _ _ (call .fill .ensures)
+
+pub statement-spec : {M : Type 1} → statement M
+statement-spec =
+    tie.close
+    (tie.spec
+    returns
+    returns-2
+    returns-3
+    check-requires
+    returns-4
+    returns-5
+    clear-boundaries-requires
+    clear-boundaries-requires-2
+    clear-energies-requires
+    count-readings-requires
+    same-length
+    same-length-2
+    same-length-3
+    returns-6
+    fill-requires
+    same-length-4
+    same-length-5
+    same-length-6
+    returns-7)

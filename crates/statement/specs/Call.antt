@@ -1,0 +1,55 @@
+-- The statement call (Account and its calls, If a call declines): what it answers and what every slice holds after it.
+use Prim.Native.Nat.{ℕ, suc}
+use mathlib.Core.Path.{_≡_}
+use mathlib.Core.Bool.{Bool, cond, not, _||_}
+use lib.Dec.{eqb, ltb}
+use lib.ListN.{length, replicate}
+use Rattle.account.specs.Boundaries.{howMany}
+use Rattle.account.specs.Stands.{Stands}
+use Rattle.account.specs.Account.{Account, days, shown, unfit, sound}
+use Rattle.account.specs.Table.{row}
+use Rattle.statement.specs.declared.StatementAnswer.{StatementAnswer}
+use Rattle.statement.specs.declared.StatementAnswer.the-variants.{Parts, Unfit, Unsound, TooFewReadings}
+use Rattle.statement.specs.Parts.{Outputs, outputs, parts, written}
+
+-- the paper's number and the number of parts for each answer; 0 is done, and a refused number of parts is 0
+abbrev pub number : StatementAnswer → ℕ
+number (Parts n) = 0
+number Unfit = 3
+number Unsound = 5
+number TooFewReadings = 11
+
+abbrev pub partCount : StatementAnswer → ℕ
+partCount (Parts n) = n
+partCount Unfit = 0
+partCount Unsound = 0
+partCount TooFewReadings = 0
+
+-- 3: an output is not n long
+abbrev pub unfitOutputs : ℕ → Outputs → Bool
+unfitOutputs n o = not (eqb (length (o .from)) n) || not (eqb (length (o .to)) n) || not (eqb (length (o .wh)) n)
+
+-- 11: "fewer than two readings", over what stands
+abbrev pub statementRows : ℕ → Stands → ℕ
+statementRows n s =
+    row (ltb (howMany (s .readings .at) (suc n)) 2) 11
+    0
+
+abbrev pub statementNumber : Account → Outputs → ℕ
+statementNumber a o =
+    row (unfit a || unfitOutputs (days a) o) 3
+    (row (not (sound a)) 5
+    (statementRows (days a) (shown a)))
+
+abbrev pub zeroed : Outputs → Outputs
+zeroed o = outputs (replicate (length (o .from)) 0) (replicate (length (o .to)) 0) (replicate (length (o .wh)) 0)
+
+-- the outputs after a call that answers this number: the statement; zeros for 11; untouched for 3 and 5
+abbrev pub left : ℕ → Outputs → Outputs → Outputs
+left answered done before = cond (eqb answered 0) done (cond (eqb answered 11) (zeroed before) before)
+
+pub record StatementMet (before : Account) (lent : Outputs) (answer : StatementAnswer) (after : Account) (out : Outputs) : Type 0 where
+  pub answers : number answer ≡ statementNumber before lent
+  pub counts : partCount answer ≡ cond (eqb (statementNumber before lent) 0) (length (parts (before .weights) (shown before))) 0
+  pub stays : after ≡ before
+  pub writes : out ≡ left (statementNumber before lent) (written (days before) (parts (before .weights) (shown before))) lent

@@ -1,0 +1,5 @@
+pub mod Split
+pub mod Parts
+pub mod Shares
+pub mod Call
+pub mod Progress

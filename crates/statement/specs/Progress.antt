@@ -1,0 +1,87 @@
+-- How far a statement is written (Account and its calls, "Statement"): what the private functions promise each other.
+use Prim.Native.Nat.{ℕ, suc, _+_, _-_, _*_, _^_, _≤_, _<_}
+use mathlib.Core.Path.{_≡_}
+use mathlib.Core.Bool.{Bool, true, false}
+use mathlib.Core.List.{List, []}
+use lib.ListN.{length, getD, set}
+use Rattle.profile.specs.Limits.{spanMost, weightMost}
+use Rattle.account.specs.Boundaries.{howMany, last}
+use Rattle.account.specs.Stands.{Stands, Readings}
+use Rattle.account.specs.Account.{Account, days, shown, unfit, sound, marksReading, goodWeights, energyMost}
+use Rattle.statement.specs.declared.Progress.{Progress}
+use Rattle.statement.specs.Split.{weightSum, has}
+use Rattle.statement.specs.Parts.{Outputs, outputs, marked, partsBelow, parts, written}
+use Rattle.statement.specs.Shares.{Adjacent}
+
+-- r is the first reading at or after boundary k, and one past the last boundary where there is none
+pub record NextReading (marks : List ℕ) (k r : ℕ) : Type 0 where
+  pub after : k ≤ r
+  pub within : r ≤ length marks
+  pub none-before : (j : ℕ) → k ≤ j → j < r → marksReading (getD marks j 0) ≡ false
+  pub there : r < length marks → marksReading (getD marks r 0) ≡ true
+
+-- weights that can be summed from day p to day q-1
+pub record Summable (w : List ℕ) (p q : ℕ) : Type 0 where
+  pub ordered : p ≤ q
+  pub within : q ≤ length w
+  pub span : length w ≤ spanMost
+  pub good : goodWeights w ≡ true
+
+-- numbers of which low + nearest(e × zk / z) can be formed
+pub record Splittable (low e zk z : ℕ) : Type 0 where
+  pub some : 0 < z
+  pub share : zk ≤ z
+  pub sum : z ≤ spanMost * weightMost
+  pub energy : e ≤ energyMost
+  pub room : low + e < 2 ^ 64
+
+-- an account that none of the rows 3 and 5 refuses
+pub record Checked (a : Account) : Type 0 where
+  pub fits : unfit a ≡ false
+  pub good : sound a ≡ true
+
+-- the outputs hold the parts that end below boundary m, and zeros past them;
+-- the next part is number `count`, and starts at the boundary `start`, which has `value`
+pub record Written (w : List ℕ) (s : Stands) (m : ℕ) (o : Outputs) (d : Progress) : Type 0 where
+  pub holds : o ≡ written (length w) (partsBelow w s m)
+  pub count : d .count ≡ length (partsBelow w s m)
+  pub start : d .start ≡ last (marked s) m
+  pub value : d .value ≡ has w (s .readings) (last (marked s) m)
+
+-- the parts up to the reading at which the next part starts are written, and q is the next reading
+pub record Interval (a : Account) (q : ℕ) (o : Outputs) (d : Progress) : Type 0 where
+  pub checked : Checked a
+  pub within : q ≤ days a
+  pub adjacent : Adjacent (shown a .readings) (d .start) q
+  pub so-far : Written (a .weights) (shown a) (d .start + 1) o d
+
+-- a checked account with a reading, and outputs that are zero
+pub record Ready (a : Account) (o : Outputs) : Type 0 where
+  pub checked : Checked a
+  pub some : 0 < howMany (shown a .readings .at) (suc (days a))
+  pub clear : o ≡ written (days a) []
+
+-- the outputs hold every part, and this is their number
+pub record Filled (a : Account) (o : Outputs) (count : ℕ) : Type 0 where
+  pub holds : o ≡ written (days a) (parts (a .weights) (shown a))
+  pub counts : count ≡ length (parts (a .weights) (shown a))
+
+-- a part can be added: there is room for it, its boundaries fit 16 bits, and its end has at least what its start has
+pub record Addable (o : Outputs) (d : Progress) (end value : ℕ) : Type 0 where
+  pub from : d .count < length (o .from)
+  pub to : d .count < length (o .to)
+  pub wh : d .count < length (o .wh)
+  pub starts : d .start < 65_536
+  pub ends : end < 65_536
+  pub rises : d .value ≤ value
+
+-- the outputs and the progress after a part to `end`, which has `value`
+abbrev pub withPart : Outputs → Progress → ℕ → ℕ → Outputs
+withPart o d end value =
+    outputs
+    (set (o .from) (d .count) (d .start))
+    (set (o .to) (d .count) end)
+    (set (o .wh) (d .count) (value - d .value))
+
+abbrev pub nextPart : Progress → ℕ → ℕ → Progress
+nextPart d end value = record { start = end; value = value; count = d .count + 1 }

@@ -1,0 +1,43 @@
+-- Exact shares and sums of a statement (Account and its calls, "Statement"): "Adjacent readings p and q enclose the parts and the
+-- marked boundaries from p to q, both ends included. A part's exact share is E × its weights / Z; the energy between p and a
+-- boundary is the sum of Wh of the parts from p to it."
+use Prim.Native.Nat.{ℕ, zero, suc, _+_, _-_, _*_, _≤_, _<_}
+use mathlib.Core.Path.{_≡_}
+use mathlib.Core.Bool.{Bool, true, false, cond, _&&_}
+use mathlib.Core.List.{List}
+use lib.Dec.{leb}
+use lib.ListN.{getD}
+use Rattle.account.specs.Stands.{Readings}
+use Rattle.statement.specs.Split.{weightSum}
+use Rattle.statement.specs.Parts.{Outputs}
+
+-- p and q are adjacent readings
+pub record Adjacent (r : Readings) (p q : ℕ) : Type 0 where
+  pub ordered : p < q
+  pub one : r .at p ≡ true
+  pub other : r .at q ≡ true
+  pub none-between : (k : ℕ) → p < k → k < q → r .at k ≡ false
+
+-- the Wh of a part from f to t is less than 1 Wh from its exact share E × its weights / Z between the readings at p and q
+pub record NearShare (w : List ℕ) (r : Readings) (p q f t wh : ℕ) : Type 0 where
+  pub not-above : wh * weightSum w p q < (r .count q - r .count p) * weightSum w f t + weightSum w p q
+  pub not-below : (r .count q - r .count p) * weightSum w f t < wh * weightSum w p q + weightSum w p q
+
+-- a part from f to t lies between two adjacent readings, and is that near to its share
+pub record Shared (w : List ℕ) (r : Readings) (f t wh : ℕ) : Type 0 where
+  pub p : ℕ
+  pub q : ℕ
+  pub adjacent : Adjacent r p q
+  pub starts : p ≤ f
+  pub ends : t ≤ q
+  pub near : NearShare w r p q f t wh
+
+-- the Wh written for the first m parts
+unfoldable pub total : Outputs → ℕ → ℕ
+total o zero = 0
+total o (suc m) = total o m + getD (o .wh) m 0
+
+-- the Wh written for those of the first m parts that lie between p and b
+unfoldable pub energy : Outputs → ℕ → ℕ → ℕ → ℕ
+energy o p b zero = 0
+energy o p b (suc m) = energy o p b m + cond (leb p (getD (o .from) m 0) && leb (getD (o .to) m 0) b) (getD (o .wh) m 0) 0

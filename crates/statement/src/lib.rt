@@ -1,0 +1,224 @@
+// The statement (Account and its calls, "Statement"): one pass over the days of an account.
+ghost use mathlib.Core.Path.{_≡_};
+ghost use Prim.Native.Nat.{_+_, _-_, _≤_, _<_};
+ghost use lib.ListN.{length, replicate};
+ghost use Rattle.account.specs.Boundaries.{howMany};
+ghost use Rattle.account.specs.Slices.{readsAt};
+ghost use Rattle.account.specs.Account.{account, shown, marksReading};
+ghost use Rattle.statement.specs.Split.{weightSum, shareOf};
+ghost use Rattle.statement.specs.Parts.{outputs};
+ghost use Rattle.statement.specs.Call.{StatementMet};
+ghost use Rattle.statement.specs.Progress.{NextReading, Summable, Splittable, Addable, withPart, nextPart, Interval, Written, Ready, Filled};
+
+// What a statement answers: the number of its parts, or a row of the table.
+pub enum StatementAnswer {
+    Parts(usize),
+    Unfit,
+    Unsound,
+    TooFewReadings,
+}
+
+// How far a statement is written: the next part is number `count`, and starts at the boundary `start`, which has `value`.
+struct Progress {
+    start: usize,
+    value: u64,
+    count: usize,
+}
+
+// Writes the statement of an account into `from`, `to` and `wh`, and returns the number of its parts. Two readings and more have a part.
+pub fn statement(
+    weights: &[u32],
+    marks: &[u8],
+    counts: &[u64],
+    from: &mut [u16],
+    to: &mut [u16],
+    wh: &mut [u64],
+) -> StatementAnswer
+    ensures { λ r. ⌜ StatementMet (account (now (weights .entry)) (now (marks .entry)) (now (counts .entry))) (outputs (now (from .entry)) (now (to .entry)) (now (wh .entry))) r (account (now (weights .exit)) (now (marks .exit)) (now (counts .exit))) (outputs (now (from .exit)) (now (to .exit)) (now (wh .exit))) ⌝ }
+{
+    let n = weights.len();
+    if from.len() != n {
+        return StatementAnswer::Unfit;
+    }
+    if to.len() != n {
+        return StatementAnswer::Unfit;
+    }
+    if wh.len() != n {
+        return StatementAnswer::Unfit;
+    }
+    let refused = account::check(weights, marks, counts);
+    if refused == 3 {
+        return StatementAnswer::Unfit;
+    }
+    if refused != 0 {
+        return StatementAnswer::Unsound;
+    }
+    clear_boundaries(from);
+    clear_boundaries(to);
+    clear_energies(wh);
+    if count_readings(marks) < 2 {
+        return StatementAnswer::TooFewReadings;
+    }
+    let parts = fill(weights, marks, counts, from, to, wh);
+    StatementAnswer::Parts(parts)
+}
+
+fn clear_boundaries(d: &mut [u16])
+    ensures { λ r. ⌜ now (d .exit) ≡ replicate (length (now (d .entry))) 0 ⌝ }
+{
+    let mut i = 0;
+    while i < d.len() {
+        d[i] = 0;
+        i += 1;
+    }
+}
+
+fn clear_energies(d: &mut [u64])
+    ensures { λ r. ⌜ now (d .exit) ≡ replicate (length (now (d .entry))) 0 ⌝ }
+{
+    let mut i = 0;
+    while i < d.len() {
+        d[i] = 0;
+        i += 1;
+    }
+}
+
+fn is_reading(mark: u8) -> bool
+    ensures { λ r. ⌜ r ≡ marksReading mark ⌝ }
+{
+    mark == 2 || mark == 3
+}
+
+// The first reading at or after boundary k; one past the last boundary where there is none.
+fn next_reading(marks: &[u8], k: usize) -> usize
+    requires { ⌜ k ≤ length (now marks) ⌝ }
+    ensures { λ r. ⌜ NextReading (now (marks .entry)) k r ⌝ }
+{
+    let mut i = k;
+    while i < marks.len() {
+        if is_reading(marks[i]) {
+            return i;
+        }
+        i += 1;
+    }
+    i
+}
+
+fn count_readings(marks: &[u8]) -> usize
+    ensures { λ r. ⌜ r ≡ howMany (readsAt (now (marks .entry))) (length (now (marks .entry))) ⌝ }
+{
+    let mut count = 0;
+    let mut i = 0;
+    while i < marks.len() {
+        if is_reading(marks[i]) {
+            count += 1;
+        }
+        i += 1;
+    }
+    count
+}
+
+// The weights from day p to day q-1.
+fn weight_sum(weights: &[u32], p: usize, q: usize) -> u64
+    requires { ⌜ Summable (now weights) p q ⌝ }
+    ensures { λ r. ⌜ r ≡ weightSum (now (weights .entry)) p q ⌝ }
+{
+    let mut sum: u64 = 0;
+    let mut i = p;
+    while i < q {
+        sum += weights[i] as u64;
+        i += 1;
+    }
+    sum
+}
+
+// What a cut has between two readings: the earlier reading's count `low`, and its share of the energy e between them.
+fn cut_value(low: u64, e: u64, zk: u64, z: u64) -> u64
+    requires { ⌜ Splittable low e zk z ⌝ }
+    ensures { λ r. ⌜ r ≡ low + shareOf e zk z ⌝ }
+{
+    low + rounding::nearest_of(e * zk, z)
+}
+
+// Writes the part that ends at boundary `end`, which has `value`.
+fn add_part(
+    from: &mut [u16],
+    to: &mut [u16],
+    wh: &mut [u64],
+    done: Progress,
+    end: usize,
+    value: u64,
+) -> Progress
+    requires { ⌜ Addable (outputs (now from) (now to) (now wh)) done end value ⌝ }
+    ensures { λ r. ⌜ (r ≡ nextPart done end value) × (outputs (now (from .exit)) (now (to .exit)) (now (wh .exit)) ≡ withPart (outputs (now (from .entry)) (now (to .entry)) (now (wh .entry))) done end value) ⌝ }
+{
+    let at = done.count;
+    from[at] = done.start as u16;
+    to[at] = end as u16;
+    wh[at] = value - done.value;
+    Progress {
+        start: end,
+        value: value,
+        count: at + 1,
+    }
+}
+
+// Writes the parts from the reading at which the next part starts to the next reading q.
+fn fill_interval(
+    weights: &[u32],
+    marks: &[u8],
+    counts: &[u64],
+    q: usize,
+    from: &mut [u16],
+    to: &mut [u16],
+    wh: &mut [u64],
+    done: Progress,
+) -> Progress
+    requires { ⌜ Interval (account (now weights) (now marks) (now counts)) q (outputs (now from) (now to) (now wh)) done ⌝ }
+    ensures { λ r. ⌜ Written (now (weights .entry)) (shown (account (now (weights .entry)) (now (marks .entry)) (now (counts .entry)))) (q + 1) (outputs (now (from .exit)) (now (to .exit)) (now (wh .exit))) r ⌝ }
+{
+    let p = done.start;
+    let low = done.value;
+    let high = counts[q];
+    let e = high - low;
+    let z = weight_sum(weights, p, q);
+    let mut k = p + 1;
+    let mut zk = weight_sum(weights, p, k);
+    let mut reached = done;
+    while k < q {
+        if marks[k] != 0 {
+            let value = cut_value(low, e, zk, z);
+            reached = add_part(from, to, wh, reached, k, value);
+        }
+        zk += weights[k] as u64;
+        k += 1;
+    }
+    add_part(from, to, wh, reached, q, high)
+}
+
+// Writes every part, from the first reading to the last; their number.
+fn fill(
+    weights: &[u32],
+    marks: &[u8],
+    counts: &[u64],
+    from: &mut [u16],
+    to: &mut [u16],
+    wh: &mut [u64],
+) -> usize
+    requires { ⌜ Ready (account (now weights) (now marks) (now counts)) (outputs (now from) (now to) (now wh)) ⌝ }
+    ensures { λ r. ⌜ Filled (account (now (weights .entry)) (now (marks .entry)) (now (counts .entry))) (outputs (now (from .exit)) (now (to .exit)) (now (wh .exit))) r ⌝ }
+{
+    let n = weights.len();
+    let first = next_reading(marks, 0);
+    let mut done = Progress {
+        start: first,
+        value: counts[first],
+        count: 0,
+    };
+    let mut q = next_reading(marks, first + 1);
+    while q <= n {
+        done = fill_interval(weights, marks, counts, q, from, to, wh, done);
+        q = next_reading(marks, q + 1);
+    }
+    done.count
+}
