@@ -1,0 +1,66 @@
+-- Customer value and daily amount: "The customer value, in units of 0.1 Wh, is nearest(energy × 10^7 / Z), energy in Wh, Z the sum of
+-- the lent weights. The daily amount is nearest(value × weight / 10^7) Wh."
+use Prim.Native.Nat.{ℕ, _+_, _*_}
+use mathlib.Core.Path.{_≡_}
+use mathlib.Core.Bool.{cond, not}
+use mathlib.Core.List.{List, [], _∷_}
+use lib.Dec.{eqb, ltb}
+use lib.ListN.{length}
+use Rattle.rounding.specs.Nearest.{nearest}
+use Rattle.account.specs.Account.{badSpan, goodWeight, goodWeights, energyMost}
+use Rattle.account.specs.Table.{row}
+use Rattle.customer.specs.declared.CustomerAnswer.{CustomerAnswer}
+use Rattle.customer.specs.declared.CustomerAnswer.the-variants.{Given, Unfit, Unsound, TooMuch, TooGreat}
+
+-- the paper's number and value for each answer; 0 is done, and a refused value is 0
+abbrev pub number : CustomerAnswer → ℕ
+number (Given v) = 0
+number Unfit = 3
+number Unsound = 5
+number TooMuch = 9
+number TooGreat = 12
+
+abbrev pub value : CustomerAnswer → ℕ
+value (Given v) = v
+value Unfit = 0
+value Unsound = 0
+value TooMuch = 0
+value TooGreat = 0
+
+-- Z
+unfoldable pub sumOf : List ℕ → ℕ
+sumOf [] = 0
+sumOf (x ∷ xs) = x + sumOf xs
+
+abbrev pub customerValue : ℕ → List ℕ → ℕ
+customerValue energy w = nearest (energy * 10_000_000) (sumOf w)
+
+abbrev pub dailyAmount : ℕ → ℕ → ℕ
+dailyAmount v weight = nearest (v * weight) 10_000_000
+
+-- 12: "customer value above 10^12"
+abbrev pub valueMost : ℕ
+valueMost = 1_000_000_000_000
+
+abbrev pub customerRows : ℕ → List ℕ → ℕ
+customerRows energy w =
+    row (badSpan (length w)) 3
+    (row (not (goodWeights w)) 5
+    (row (ltb energyMost energy) 9
+    (row (ltb valueMost (customerValue energy w)) 12
+    0)))
+
+-- 5 asks about the single weight, and 12 about the value that is passed in
+abbrev pub amountRows : ℕ → ℕ → ℕ
+amountRows v weight =
+    row (not (goodWeight weight)) 5
+    (row (ltb valueMost v) 12
+    0)
+
+pub record CustomerMet (energy : ℕ) (w : List ℕ) (answer : CustomerAnswer) : Type 0 where
+  pub answers : number answer ≡ customerRows energy w
+  pub values : value answer ≡ cond (eqb (customerRows energy w) 0) (customerValue energy w) 0
+
+pub record AmountMet (v weight : ℕ) (answer : CustomerAnswer) : Type 0 where
+  pub answers : number answer ≡ amountRows v weight
+  pub values : value answer ≡ cond (eqb (amountRows v weight) 0) (dailyAmount v weight) 0

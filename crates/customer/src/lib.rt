@@ -1,0 +1,76 @@
+// Customer value and daily amount, on lent weights and single numbers (Customer value and daily amount, If a call declines).
+ghost use mathlib.Core.Path.{_≡_};
+ghost use Prim.Native.Nat.{_≤_};
+ghost use lib.ListN.{length};
+ghost use Rattle.customer.specs.Customer.{CustomerMet, AmountMet, sumOf};
+use profile::Profile;
+
+// The largest energy in Wh and the largest customer value in 0.1 Wh.
+const ENERGY_MOST: u64 = 2_000_000_000;
+
+const VALUE_MOST: u64 = 1_000_000_000_000;
+
+const UNITS: u64 = 10_000_000;
+
+// A customer value or a daily amount, or a row of the table.
+pub enum CustomerAnswer {
+    Given(u64),
+    Unfit,
+    Unsound,
+    TooMuch,
+    TooGreat,
+}
+
+// Z: the sum of the weights.
+fn total(weights: &[u32]) -> u64
+    requires { ⌜ length (now weights) ≤ 1096 ⌝ }
+    ensures { λ r. ⌜ r ≡ sumOf (now (weights .entry)) ⌝ }
+{
+    let mut sum: u64 = 0;
+    let mut i = 0;
+    while i < weights.len() {
+        sum += weights[i] as u64;
+        i += 1;
+    }
+    sum
+}
+
+// The customer value of this energy in Wh over these weights, in units of 0.1 Wh.
+pub fn customer_value(energy: u64, weights: &[u32]) -> CustomerAnswer
+    ensures { λ r. ⌜ CustomerMet energy (now (weights .entry)) r ⌝ }
+{
+    let n = weights.len();
+    if n == 0 {
+        return CustomerAnswer::Unfit;
+    }
+    if Profile::SPAN < n {
+        return CustomerAnswer::Unfit;
+    }
+    if !account::good_weights(weights) {
+        return CustomerAnswer::Unsound;
+    }
+    if ENERGY_MOST < energy {
+        return CustomerAnswer::TooMuch;
+    }
+    let value = rounding::nearest_of(energy * UNITS, total(weights));
+    if VALUE_MOST < value {
+        return CustomerAnswer::TooGreat;
+    }
+    CustomerAnswer::Given(value)
+}
+
+// The Wh of a day with this weight for a customer with this value.
+pub fn daily_amount(value: u64, weight: u32) -> CustomerAnswer
+    ensures { λ r. ⌜ AmountMet value weight r ⌝ }
+{
+    if weight < Profile::WEIGHT_LEAST {
+        return CustomerAnswer::Unsound;
+    }
+    if Profile::WEIGHT_MOST < weight {
+        return CustomerAnswer::Unsound;
+    }
+    if VALUE_MOST < value {
+        return CustomerAnswer::TooGreat;
+    }
+    CustomerAnswer::Given(rounding::nearest_of(value * (weight as u64), UNITS))
+}

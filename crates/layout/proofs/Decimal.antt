@@ -1,0 +1,55 @@
+-- The decimal digits of a number: the fewest that hold it are as many as `places` counts, at most 20 for 64 bits. Assumes nothing.
+use mathlib.Core.Path.{_≡_, refl, sym, ap, _∙_}
+use mathlib.Core.List.{List, [], _∷_, _++_}
+use Prim.Native.Nat.{ℕ, zero, suc, _+_, _-_, _*_, _/_, _%_, _^_, _≤_, _<_}
+use native.Mathlib.Nat.{div-lt-iff-lt-mul, le-div-iff-mul-le, pow-suc, one-le-pow, pow-le-pow-right, le-of-suc-le-suc}
+use native.Mathlib.Decide.{decLe}
+use native.Mathlib.Numerals.{add-one}
+use native.Mathlib.Omega.{arith}
+use borrow.Author.Tests.{lt-ltb, le-ltb}
+use lib.Dec.{lit<}
+use lib.ListN.{length, length-append}
+use Rattle.io.specs.Digits.{digits, Fewest, glyph}
+use Rattle.layout.specs.Text.{places, decimal}
+
+-- n has k + 1 digits
+places-is : (more k n : ℕ) → k ≤ more → n < 10 ^ suc k → (0 < k → 10 ^ k ≤ n) → places more n ≡ suc k
+unfolding places
+places-is zero zero n h most least = refl
+places-is zero (suc k) n h most least = absurd (omega arith)
+places-is (suc more) zero n h most least = rw (lt-ltb n 10 most)
+places-is (suc more) (suc k) n h most least =
+    let high : n < 10 ^ suc k * 10 = rw pow-suc at most in
+    let low : 10 ^ k * 10 ≤ n = rw pow-suc at (least (omega arith)) in
+    let ten : 10 ≤ n = omega (arith, one-le-pow k 10 (lit< tt)) in
+    rw (le-ltb n 10 ten)
+    (ap suc
+    (places-is more k (n / 10) (le-of-suc-le-suc h) (div-lt-iff-lt-mul (lit< tt) .1 high)
+    (λ pos. le-div-iff-mul-le (lit< tt) .1 low)))
+
+length-digits : (k n : ℕ) → length (digits 10 k n) ≡ k
+length-digits zero n = refl
+length-digits (suc k) n = length-append (digits 10 k (n / 10)) (glyph (n % 10) ∷ []) ∙ add-one (length (digits 10 k (n / 10))) ∙ ap suc (length-digits k (n / 10))
+
+pub fewest-small : (n k : ℕ) → n < 2 ^ 64 → Fewest 10 1 n k → k ≤ 20
+fewest-small n k fits fewest =
+    elim (decLe k 20) [
+      | yes h ↦ h
+      | no above ↦
+          let more : 20 ≤ k - 1 = omega arith in
+          let high : 10 ^ 20 ≤ 10 ^ (k - 1) = pow-le-pow-right (lit< tt) more in
+          absurd (omega (arith, fewest .2 (omega arith)))
+    ]
+
+pub fewest-places : (n k : ℕ) → Fewest 10 1 n k → k ≤ 20 → places 20 n ≡ k
+fewest-places n zero fewest small = absurd (omega arith)
+fewest-places n (suc k) fewest small =
+    let pred : suc k - 1 ≡ k = omega arith in
+    places-is 20 k n (omega arith) (fewest .1) (λ pos. rw pred at (fewest .2 (omega arith)))
+
+pub decimal-is : (n k : ℕ) → Fewest 10 1 n k → k ≤ 20 → digits 10 k n ≡ decimal n
+unfolding decimal
+decimal-is n k fewest small = ap (λ (m : ℕ). digits 10 m n) (sym (fewest-places n k fewest small))
+
+pub length-decimal : (n k : ℕ) → Fewest 10 1 n k → k ≤ 20 → length (decimal n) ≡ k
+length-decimal n k fewest small = ap length (sym (decimal-is n k fewest small)) ∙ length-digits k n

@@ -1,0 +1,38 @@
+-- Two texts laid out one after the other are their joined text laid out. Assumes nothing.
+use mathlib.Core.Path.{_≡_, refl, sym, ap, _∙_}
+use mathlib.Core.List.{List, [], _∷_, _++_}
+use Prim.Native.Nat.{ℕ, suc, _+_}
+use native.Mathlib.Nat.{add-zero}
+use native.Mathlib.Omega.{arith}
+use lib.ListN.{length, set, length-append}
+use lib.Seq.{sets}
+use mathlib.Core.Bool.{true, false}
+use Rattle.statement.specs.Parts.{Outputs}
+use Rattle.statement.specs.Shares.{total}
+use Rattle.layout.specs.Text.{LaidOut, noStatement, statementText, partsText}
+
+sets-append : (o : List ℕ) (at : ℕ) (xs ys : List ℕ) → sets (sets o at xs) (at + length xs) ys ≡ sets o at (xs ++ ys)
+sets-append o at [] ys = rw add-zero
+sets-append o at (x ∷ xs) ys =
+    let e : at + suc (length xs) ≡ suc at + length xs = omega arith in
+    ap (λ (n : ℕ). sets (sets (set o at x) (suc at) xs) n ys) e ∙ sets-append (set o at x) (suc at) xs ys
+
+pub then-laid : {at : ℕ} {xs o : List ℕ} {m : ℕ} {p ys : List ℕ} {n : ℕ} {q : List ℕ} →
+    LaidOut at xs o m p → LaidOut m ys p n q → LaidOut at (xs ++ ys) o n q
+then-laid {at} {xs} {o} {m} {p} {ys} one two =
+    record {
+      ends = omega (arith, one .ends, two .ends, length-append xs ys);
+      stored =
+          two .stored ∙
+          ap (λ (k : ℕ). sets p k ys) (one .ends) ∙
+          ap (λ (l : List ℕ). sets l (at + length xs) ys) (one .stored) ∙
+          sets-append o at xs ys;
+    }
+
+-- what is laid out where there can be no such statement: nothing
+pub none-laid : (o : Outputs) (m : ℕ) (out : List ℕ) → noStatement o m ≡ true → LaidOut 0 (statementText o m) out 0 out
+none-laid o m out no-such = rw no-such (record { ends = refl; stored = refl })
+
+pub given-laid : (o : Outputs) (m sum : ℕ) (out : List ℕ) (next : ℕ) (after : List ℕ) →
+    noStatement o m ≡ false → sum ≡ total o m → LaidOut 0 (partsText o m sum) out next after → LaidOut 0 (statementText o m) out next after
+given-laid o m sum out next after such is laid = rw such (rw is at laid)

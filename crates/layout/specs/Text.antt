@@ -1,0 +1,80 @@
+-- The printed statement and refusal (Case file): "First the number of parts, then from, to, Wh of each, then their sum. A refusal prints
+-- one line: `refused`, its number and the place (0 if it has none), single spaces between." Text is a list of ASCII codes.
+use Prim.Native.Nat.{ℕ, zero, suc, _+_, _/_}
+use mathlib.Core.Path.{_≡_}
+use mathlib.Core.Bool.{Bool, cond, _||_}
+use mathlib.Core.List.{List, [], _∷_, _++_}
+use lib.Dec.{ltb}
+use lib.ListN.{length, getD}
+use lib.Seq.{sets}
+use Rattle.io.specs.Digits.{digits}
+use Rattle.account.specs.Boundaries.{some}
+use Rattle.account.specs.Account.{energyMost}
+use Rattle.profile.specs.Limits.{spanMost}
+use Rattle.statement.specs.Parts.{Outputs}
+use Rattle.statement.specs.Shares.{total}
+
+-- how many decimal digits n has; 20 are enough for 64 bits
+unfoldable pub places : ℕ → ℕ → ℕ
+places zero n = 1
+places (suc more) n = cond (ltb n 10) 1 (suc (places more (n / 10)))
+
+unfoldable pub decimal : ℕ → List ℕ
+decimal n = digits 10 (places 20 n) n
+
+abbrev pub space : List ℕ
+space = 32 ∷ []
+
+abbrev pub lineFeed : List ℕ
+lineFeed = 10 ∷ []
+
+-- `parts `, `sum `, `refused `
+abbrev pub partsWord : List ℕ
+partsWord = 112 ∷ 97 ∷ 114 ∷ 116 ∷ 115 ∷ 32 ∷ []
+
+abbrev pub sumWord : List ℕ
+sumWord = 115 ∷ 117 ∷ 109 ∷ 32 ∷ []
+
+abbrev pub refusedWord : List ℕ
+refusedWord = 114 ∷ 101 ∷ 102 ∷ 117 ∷ 115 ∷ 101 ∷ 100 ∷ 32 ∷ []
+
+-- one line for a part: from, to, Wh
+abbrev pub lineOf : ℕ → ℕ → ℕ → List ℕ
+lineOf from to wh = decimal from ++ space ++ decimal to ++ space ++ decimal wh ++ lineFeed
+
+-- the lines of the parts before part m
+unfoldable pub partLines : Outputs → ℕ → List ℕ
+partLines o zero = []
+partLines o (suc m) = partLines o m ++ lineOf (getD (o .from) m 0) (getD (o .to) m 0) (getD (o .wh) m 0)
+
+-- no statement is like this: more parts than days, or than an output holds, or a part above 2,000,000,000 Wh
+abbrev pub noStatement : Outputs → ℕ → Bool
+noStatement o m =
+    ltb spanMost m ||
+    ltb (length (o .from)) m ||
+    ltb (length (o .to)) m ||
+    ltb (length (o .wh)) m ||
+    some (λ i. ltb energyMost (getD (o .wh) i 0)) m
+
+-- the text of a statement of m parts that add up to `sum`
+abbrev pub partsText : Outputs → ℕ → ℕ → List ℕ
+partsText o m sum = partsWord ++ decimal m ++ lineFeed ++ partLines o m ++ sumWord ++ decimal sum ++ lineFeed
+
+-- the text of a statement of m parts; none where there can be no such statement
+abbrev pub statementText : Outputs → ℕ → List ℕ
+statementText o m = cond (noStatement o m) [] (partsText o m (total o m))
+
+-- `done`, and `unknown` with the number of a line: what the console prints besides
+abbrev pub doneText : List ℕ
+doneText = 100 ∷ 111 ∷ 110 ∷ 101 ∷ lineFeed
+
+abbrev pub unknownText : ℕ → List ℕ
+unknownText line = 117 ∷ 110 ∷ 107 ∷ 110 ∷ 111 ∷ 119 ∷ 110 ∷ 32 ∷ decimal line ++ lineFeed
+
+abbrev pub refusalText : ℕ → ℕ → List ℕ
+refusalText number place = refusedWord ++ decimal number ++ space ++ decimal place ++ lineFeed
+
+-- a text laid out in a lent slice from an offset on: the offset after it is returned, as much of it as fits is stored, the rest is untouched
+pub record LaidOut (at : ℕ) (text before : List ℕ) (next : ℕ) (after : List ℕ) : Type 0 where
+  pub ends : next ≡ at + length text
+  pub stored : after ≡ sets before at text

@@ -1,0 +1,140 @@
+// The text of a statement and of a refusal, laid out in a lent buffer (Case file, the program's output).
+mod put;
+
+ghost use mathlib.Core.Path.{_≡_};
+ghost use mathlib.Core.Bool.{false};
+ghost use mathlib.Core.List.{List};
+ghost use Prim.Native.Nat.{ℕ, _+_, _*_, _<_, _≤_, _^_};
+ghost use lib.Dec.{ltb};
+ghost use lib.ListN.{length, getD};
+ghost use Rattle.account.specs.Boundaries.{some};
+ghost use Rattle.account.specs.Account.{energyMost};
+ghost use Rattle.statement.specs.Parts.{outputs};
+ghost use Rattle.statement.specs.Shares.{total};
+ghost use Rattle.layout.specs.Text.{LaidOut, statementText, refusalText, doneText, unknownText, lineOf, partLines, partsText};
+
+const SPAN: usize = profile::Profile::SPAN;
+
+const ENERGY_MOST: u64 = 2_000_000_000;
+
+// The text of a refusal with its number and place, at the start of out.
+pub fn refusal_text(number: u8, place: usize, out: &mut [u8]) -> usize
+    ensures { λ r. ⌜ LaidOut 0 (refusalText number place) (now (out .entry)) r (now (out .exit)) ⌝ }
+{
+    let at = put::word(out, 0, b"refused ");
+    let at = put::number(out, at, number as u64);
+    let at = put::word(out, at, b" ");
+    let at = put::number(out, at, place as u64);
+    put::word(out, at, b"\n")
+}
+
+// The word `done`, at the start of out.
+pub fn done_text(out: &mut [u8]) -> usize
+    ensures { λ r. ⌜ LaidOut 0 doneText (now (out .entry)) r (now (out .exit)) ⌝ }
+{
+    put::word(out, 0, b"done\n")
+}
+
+// The word `unknown` and the number of a line, at the start of out.
+pub fn unknown_text(line: usize, out: &mut [u8]) -> usize
+    ensures { λ r. ⌜ LaidOut 0 (unknownText line) (now (out .entry)) r (now (out .exit)) ⌝ }
+{
+    let at = put::word(out, 0, b"unknown ");
+    let at = put::number(out, at, line as u64);
+    put::word(out, at, b"\n")
+}
+
+// The text of a statement of so many parts, at the start of out; nothing where no statement can be like that.
+pub fn statement_text(from: &[u16], to: &[u16], wh: &[u64], parts: usize, out: &mut [u8]) -> usize
+    ensures { λ r. ⌜ LaidOut 0 (statementText (outputs (now (from .entry)) (now (to .entry)) (now (wh .entry))) parts) (now (out .entry)) r (now (out .exit)) ⌝ }
+{
+    if SPAN < parts {
+        return 0;
+    }
+    if from.len() < parts {
+        return 0;
+    }
+    if to.len() < parts {
+        return 0;
+    }
+    if wh.len() < parts {
+        return 0;
+    }
+    if part_too_great(wh, parts) {
+        return 0;
+    }
+    parts_text(from, to, wh, parts, sum_of(wh, parts), out)
+}
+
+// The words, lines and sum of a statement, at the start of out.
+fn parts_text(from: &[u16], to: &[u16], wh: &[u64], parts: usize, sum: u64, out: &mut [u8]) -> usize
+    requires { ⌜ (parts ≤ 1096) × (parts ≤ length (now from)) × (parts ≤ length (now to)) × (parts ≤ length (now wh)) ⌝ }
+    ensures { λ r. ⌜ LaidOut 0 (partsText (outputs (now (from .entry)) (now (to .entry)) (now (wh .entry))) parts sum) (now (out .entry)) r (now (out .exit)) ⌝ }
+{
+    let at = put::word(out, 0, b"parts ");
+    let at = put::number(out, at, parts as u64);
+    let at = put::word(out, at, b"\n");
+    let at = lines(from, to, wh, parts, out, at);
+    let at = put::word(out, at, b"sum ");
+    let at = put::number(out, at, sum);
+    put::word(out, at, b"\n")
+}
+
+// Whether one of the first parts has more Wh than an account can have.
+fn part_too_great(wh: &[u64], parts: usize) -> bool
+    requires { ⌜ parts ≤ length (now wh) ⌝ }
+    ensures { λ r. ⌜ r ≡ some (λ i. ltb energyMost (getD (now (wh .entry)) i 0)) parts ⌝ }
+{
+    let mut i = 0;
+    while i < parts {
+        if ENERGY_MOST < wh[i] {
+            return true;
+        }
+        i += 1;
+    }
+    false
+}
+
+// The sum of the first parts' Wh.
+fn sum_of(wh: &[u64], parts: usize) -> u64
+    requires { ⌜ (parts ≤ length (now wh)) × (parts ≤ 1096) × (some (λ i. ltb energyMost (getD (now wh) i 0)) parts ≡ false) ⌝ }
+    ensures { λ r. ⌜ ((f t : List ℕ) → r ≡ total (outputs f t (now (wh .entry))) parts) ⌝ }
+{
+    let mut sum: u64 = 0;
+    let mut i = 0;
+    while i < parts {
+        sum += wh[i];
+        i += 1;
+    }
+    sum
+}
+
+// The line of one part from offset at on; the next offset, at most 63 further.
+fn line(from: u16, to: u16, wh: u64, out: &mut [u8], at: usize) -> usize
+    requires { ⌜ at + 100 < 2 ^ 62 ⌝ }
+    ensures { λ r. ⌜ LaidOut at (lineOf from to wh) (now (out .entry)) r (now (out .exit)) ⌝ }
+    ensures { λ r. ⌜ r ≤ at + 63 ⌝ }
+{
+    let at = put::number(out, at, from as u64);
+    let at = put::word(out, at, b" ");
+    let at = put::number(out, at, to as u64);
+    let at = put::word(out, at, b" ");
+    let at = put::number(out, at, wh);
+    put::word(out, at, b"\n")
+}
+
+// The lines of the first parts from offset at on; the next offset, at most 63 for each part further.
+fn lines(from: &[u16], to: &[u16], wh: &[u64], parts: usize, out: &mut [u8], at: usize) -> usize
+    requires { ⌜ (parts ≤ 1096) × (parts ≤ length (now from)) × (parts ≤ length (now to)) × (parts ≤ length (now wh)) ⌝ }
+    requires { ⌜ at ≤ 1000 ⌝ }
+    ensures { λ r. ⌜ LaidOut at (partLines (outputs (now (from .entry)) (now (to .entry)) (now (wh .entry))) parts) (now (out .entry)) r (now (out .exit)) ⌝ }
+    ensures { λ r. ⌜ r ≤ at + 63 * parts ⌝ }
+{
+    let mut next = at;
+    let mut i = 0;
+    while i < parts {
+        next = line(from[i], to[i], wh[i], out, next);
+        i += 1;
+    }
+    next
+}
