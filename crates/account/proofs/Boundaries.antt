@@ -172,13 +172,7 @@ module _ (p : ℕ → Bool) where
   first-none (suc m) e = rw (or-left (some p m) (p m) e, or-right (some p m) (p m) e)
 
   pub first-at : (m k : ℕ) → k < m → some p k ≡ false → p k ≡ true → first p m ≡ k
-  unfolding first
-  first-at zero k l e h = absurd (not-suc-le-zero l)
-  first-at (suc m) k l e h =
-      ⊎-elim
-      (λ q. rw (← q, e, h))
-      (λ s. rw (some-at m k s h, first-at m k s e h))
-      (eq-or-lt-of-le (le-of-suc-le-suc l))
+  first-at m k l e h = first-is (record { below = l; holds = h; none-before = none-at k e })
 
   pub last-zero : last p 0 ≡ 0
   unfolding last
@@ -254,23 +248,10 @@ module _ (p : ℕ → Bool) where
       go false e holds l = holds l
 
   pub last-above : (m j : ℕ) → last p m < j → j < m → p j ≡ false
-  unfolding last
-  last-above zero j g l = absurd (not-suc-le-zero l)
-  last-above (suc m) j g l = go (p m) refl (last-above m j) g
-    where
-      go : (c : Bool) → p m ≡ c → (last p m < j → j < m → p j ≡ false) → cond c m (last p m) < j → p j ≡ false
-      go true e above g = absurd (omega arith)
-      go false e above g =
-          ⊎-elim (λ q. subst (λ (i : ℕ). p i ≡ false) (sym q) e) (λ s. above g s) (eq-or-lt-of-le (le-of-suc-le-suc l))
+  last-above m j g l = refuted (p j) (λ h. let most = last-most (last-found m j l h) l h in omega arith)
 
   pub last-at : (m k : ℕ) → k < m → p k ≡ true → ((j : ℕ) → k < j → j < m → p j ≡ false) → last p m ≡ k
-  unfolding last
-  last-at zero k l e none = absurd (not-suc-le-zero l)
-  last-at (suc m) k l e none =
-      ⊎-elim
-      (λ q. rw (← q, e))
-      (λ s. rw (none m s (omega arith)) (last-at m k s e (λ j g h. none j g (omega arith))))
-      (eq-or-lt-of-le (le-of-suc-le-suc l))
+  last-at m k l e none = last-is (record { below = l; holds = e; none-after = none })
 
 -- a reading has at least what the reading before it has
 pub rising : (r : Readings) (m : ℕ) → neverFalling r m ≡ true → (k : ℕ) → k < m → r .at k ≡ true → r .count (last (r .at) k) ≤ r .count k

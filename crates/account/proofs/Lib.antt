@@ -3,6 +3,7 @@ pub mod Clear
 pub mod Order
 pub mod Sound
 pub mod Pass
+pub mod Spread
 pub mod Rows
 pub mod With
 pub mod Stores

@@ -1,18 +1,17 @@
 -- The rows of the table, from the facts that lead to each of them, and back. Assumes nothing.
 use Prim.Native.Nat.{ℕ, suc, _≤_, _<_}
-use native.Mathlib.Numerals.{add-one}
 use native.Mathlib.Omega.{arith}
 use mathlib.Core.Path.{_≡_, refl, sym, ap, ap₂, _∙_}
 use mathlib.Core.Bool.{Bool, true, false, not, _&&_}
 use borrow.Author.Tests.{le-leb, lt-leb, le-ltb, ltb-false, not-false}
 use lib.Dec.{leb, ltb, eqb, lit<}
 use lib.ListN.{length}
-use Rattle.account.specs.Stands.{Readings, lastLessFirst}
 use Rattle.account.specs.Account as accounts
 use Rattle.account.specs.Account.{Account, days, shown, unfit, sound, goodWeights, energyMost}
 use Rattle.account.specs.Table.{row, accountRows}
 use Rattle.account.specs.Slices.{Fit, readsAt, countAt, spread, goodBoundaries, boundaryRows, nextRow}
 use Rattle.account.proofs.Sound.{fit}
+use Rattle.account.proofs.Spread.{spread-is}
 
 -- a row that says nothing: its condition does not hold, and the rows after it say nothing
 pub row-none : (b : Bool) (n rest : ℕ) → 0 < n → row b n rest ≡ 0 → (b ≡ false) × (rest ≡ 0)
@@ -36,11 +35,6 @@ weights-unsound a w = rw w
 
 pub boundaries-unsound : (a : Account) → goodWeights (a .weights) ≡ true → goodBoundaries a ≡ false → sound a ≡ false
 boundaries-unsound a w b = rw (w, b)
-
--- last less first, as it is asked of the boundaries that the marks have
-pub spread-is : (a : Account) → Fit a → (r : Readings) → spread (r .at) (r .count) (length (a .marks)) ≡ lastLessFirst (days a) r
-unfolding lastLessFirst
-spread-is a f r = ap (spread (r .at) (r .count)) (f .marks ∙ add-one (days a))
 
 module _ (a : Account) (f : Fit a) (x : ℕ) (is : x ≡ spread (readsAt (a .marks)) (countAt (a .counts)) (length (a .marks))) where
   pub energy-unsound : goodWeights (a .weights) ≡ true → goodBoundaries a ≡ true → energyMost < x → sound a ≡ false

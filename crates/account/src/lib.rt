@@ -38,7 +38,7 @@ const ENERGY_MOST: u64 = 2_000_000_000;
 pub fn open(weights: &[u32], marks: &mut [u8], counts: &mut [u64]) -> Answer
     ensures { λ r. ⌜ OpenMet (account (now (weights .entry)) (now (marks .entry)) (now (counts .entry))) r (account (now (weights .exit)) (now (marks .exit)) (now (counts .exit))) ⌝ }
 {
-    if unfit(weights, &marks[..], &counts[..]) {
+    if unfit(weights.len(), marks.len(), counts.len()) {
         return Answer::Unfit;
     }
     if !good_weights(weights) {
@@ -103,7 +103,7 @@ pub fn uncut(weights: &[u32], marks: &mut [u8], counts: &[u64], k: usize) -> Ans
 pub fn check(weights: &[u32], marks: &[u8], counts: &[u64]) -> u8
     ensures { λ r. ⌜ r ≡ accountRows (account (now (weights .entry)) (now (marks .entry)) (now (counts .entry))) 0 ⌝ }
 {
-    if unfit(weights, marks, counts) {
+    if unfit(weights.len(), marks.len(), counts.len()) {
         return 3;
     }
     if !good_weights(weights) {

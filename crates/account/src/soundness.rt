@@ -2,25 +2,23 @@
 use crate::marks::is_reading;
 use profile::Profile;
 ghost use mathlib.Core.Path.{_≡_};
-ghost use Rattle.account.specs.Account as accounts;
 ghost use Rattle.account.specs.Account.{account};
-ghost use Rattle.account.specs.Slices.{Fit, goodBoundaries};
+ghost use Rattle.account.specs.Slices.{Fit, misfit, goodBoundaries};
 
 // Row 3: n outside 1 to 1,096, or marks or counts not n+1 long.
-pub fn unfit(weights: &[u32], marks: &[u8], counts: &[u64]) -> bool
-    ensures { λ r. ⌜ r ≡ accounts.unfit (account (now (weights .entry)) (now (marks .entry)) (now (counts .entry))) ⌝ }
+pub fn unfit(n: usize, marks: usize, counts: usize) -> bool
+    ensures { λ r. ⌜ r ≡ misfit n marks counts ⌝ }
 {
-    let n = weights.len();
     if n < 1 {
         return true;
     }
     if Profile::SPAN < n {
         return true;
     }
-    if marks.len() != n + 1 {
+    if marks != n + 1 {
         return true;
     }
-    counts.len() != n + 1
+    counts != n + 1
 }
 
 // In one pass: marks 0 to 3, no count without a reading, readings never falling. `last` is the last reading's count, 0 before the first.

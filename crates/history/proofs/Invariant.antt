@@ -1,20 +1,20 @@
 -- What holds of the account all along a run (Account and its calls): it fits, is sound, has the weights that open was given, and shows
 -- what stands. Every call keeps that, refused or not. Assumes nothing.
 use Prim.Native.Nat.{ℕ}
-use mathlib.Core.Path.{_≡_, refl, subst₂}
+use mathlib.Core.Path.{_≡_, refl, sym, _∙_, subst₂}
 use mathlib.Core.Bool.{Bool, true, false, cond}
 use mathlib.Core.List.{List, [], _∷_, _++_, map}
 use lib.Dec.{eqb}
 use lib.ListN.{length}
 use borrow.Author.Tests.{eqb-true}
-use Rattle.account.specs.Stands.{Stands}
+use Rattle.account.specs.Stands.{Stands, nothing}
 use Rattle.account.specs.Account.{Account, days, shown}
 use Rattle.account.specs.Table.{accountRows, readingRows, withdrawRows, cutRows, uncutRows}
 use Rattle.account.specs.Calls.{readingPut, readingTaken, cutPut, cutTaken}
 use Rattle.account.proofs.Rows.{Checked}
 use Rattle.account.proofs.Keeps.{Holds, reading-keeps, withdraw-keeps, cut-keeps, uncut-keeps}
 use Rattle.history.specs.History.{after, ifAccepted, standsFrom}
-use Rattle.history.specs.Run.{Event, Step, Run, call, left, answered, tableSays}
+use Rattle.history.specs.Run.{Event, Step, Run, call, left, answered, tableSays, standing}
 use Rattle.history.specs.Run as run
 
 same : (a : Account) → Checked a → Holds (a .weights) (shown a) a
@@ -38,15 +38,31 @@ step a (run.cut k r b) f met = changes a (cutPut a k) b _ (cutRows (days a) (sho
 step a (run.uncut k r b) f met = changes a (cutTaken a k) b _ (uncutRows (days a) (shown a) k) f (met .leaves) (uncut-keeps a f k)
 step a (run.statement o r b out) f met = rw (met .stays) (same a f)
 
+steps : (w : List ℕ) (s : Stands) (a : Account) (e : Event) → Holds w s a → Step a e → Holds w (after (length w) s (call e)) (left e)
+steps w s a e holds met =
+    subst₂ (λ v t. Holds v (after (length v) t (call e)) (left e)) (holds .weighs) (holds .shows) (step a e (holds .checked) met)
+
 -- the account before each event of a run, and the event's own step from it
 pub along : (w : List ℕ) (s : Stands) (a : Account) → Holds w s a → (before : List Event) (e : Event) (rest : List Event) →
     Run a (before ++ (e ∷ rest)) → (b : Account) × Holds w (standsFrom (length w) s (map call before)) b × Step b e
 unfolding standsFrom
 along w s a holds [] e rest runs = (a, holds, runs .0)
 along w s a holds (c ∷ before) e rest runs =
-    along w (after (length w) s (call c)) (left c)
-    (subst₂ (λ v t. Holds v (after (length v) t (call c)) (left c)) (holds .weighs) (holds .shows) (step a c (holds .checked) (runs .0)))
-    before e rest (runs .1)
+    along w (after (length w) s (call c)) (left c) (steps w s a c holds (runs .0)) before e rest (runs .1)
+
+-- one call more at the end
+snoc : (n : ℕ) (s : Stands) (before : List Event) (e : Event) →
+    standsFrom n s (map call (before ++ (e ∷ []))) ≡ after n (standsFrom n s (map call before)) (call e)
+unfolding standsFrom
+snoc n s [] e = refl
+snoc n s (c ∷ before) e = snoc n (after n s (call c)) before e
+
+-- the account after a call shows what then stands
+pub leaves-standing : (w : List ℕ) (before : List Event) (a : Account) (e : Event) → Holds w (standing w before) a → Step a e →
+    (left e .weights ≡ w) × (shown (left e) ≡ standing w (before ++ (e ∷ [])))
+leaves-standing w before a e holds met =
+    let next = steps w (standing w before) a e holds met in
+    (next .weighs, next .shows ∙ sym (snoc (length w) nothing before e))
 
 -- a call's answer is what the table, applied to what the account shows, says
 answers : (a : Account) (e : Event) → Checked a → Step a e → answered e ≡ tableSays (days a) (shown a) e

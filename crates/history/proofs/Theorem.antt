@@ -14,13 +14,14 @@ use Rattle.account.proofs.Rows.{Checked, row-none}
 use Rattle.account.proofs.Keeps.{Holds, shown-inside, open-keeps}
 use Rattle.statement.specs.declared.StatementAnswer.the-variants.{Parts}
 use Rattle.statement.specs.Parts.{Outputs, parts, written}
+use Rattle.statement.specs.Call as statements
 use Rattle.statement.specs.Call.{StatementMet, unfitOutputs}
 use Rattle.statement.proofs.Order.{Fair, fair-of-sound}
 use Rattle.statement.proofs.Facts.{TwoRead, sums-up, shared, same-energy}
 use Rattle.history.specs.Run.{Event, Step, Run, standing}
 use Rattle.history.specs.Run as run
 use Rattle.history.specs.Demand3.{Demand3, Among, Given}
-use Rattle.history.proofs.Invariant.{along, table-says}
+use Rattle.history.proofs.Invariant.{along, table-says, leaves-standing}
 
 -- a statement of m parts that was given where s stands: the rule's, and all that the rule's facts ask
 record By (w : List ℕ) (s : Stands) (m : ℕ) (out : Outputs) : Type 0 where
@@ -54,6 +55,12 @@ module _ (w : List ℕ) (opened : Account) (start : Holds w nothing opened) (es 
   claims =
       record {
         refusals = λ before e among. let (a, holds, met) = before-each before e among in table-says w (standing w before) a e holds met;
+        leaves = λ before e among. let (a, holds, met) = before-each before e among in leaves-standing w before a e holds met;
+        writes =
+            λ before lent answer b out among.
+            let (a, holds, met) = before-each before (run.statement lent answer b out) among in
+            subst₂ (λ v s. out ≡ statements.left (statements.number answer) (written (length v) (parts v s)) lent)
+            (holds .weighs) (holds .shows) (rw (← (met .answers)) at (met .writes));
         statements = λ before m out g. let by = given before m out g in (by .counts, by .writes);
         sums = λ before m out g. let by = given before m out g in rw (by .counts, by .writes) (sums-up w (standing w before) (by .fair) (by .two));
         shares =

@@ -3,14 +3,16 @@
 use Prim.Native.Nat.{ℕ, _≤_, _<_}
 use mathlib.Core.Path.{_≡_}
 use mathlib.Core.Bool.{true}
-use mathlib.Core.List.{List, _∷_, _++_}
+use mathlib.Core.List.{List, [], _∷_, _++_}
 use lib.ListN.{length, getD}
-use Rattle.account.specs.Account.{Account}
+use Rattle.account.specs.Account.{Account, shown}
 use Rattle.account.specs.Stands.{lastLessFirst}
 use Rattle.statement.specs.declared.StatementAnswer.the-variants.{Parts}
 use Rattle.statement.specs.Parts.{Outputs, parts, written, marked}
 use Rattle.statement.specs.Shares.{Adjacent, Shared, total, energy}
-use Rattle.history.specs.Run.{Event, answered, tableSays, standing}
+use Rattle.statement.specs.declared.StatementAnswer.{StatementAnswer}
+use Rattle.statement.specs.Call as statements
+use Rattle.history.specs.Run.{Event, left, answered, tableSays, standing}
 use Rattle.history.specs.Run as run
 
 -- e is the event of the list that comes after `before`
@@ -24,6 +26,12 @@ Given es before m out = (lent : Outputs) × (left : Account) × Among es before 
 pub record Demand3 (w : List ℕ) (es : List Event) : Type 0 where
   -- "A call is refused exactly when and as the table, applied to what stands, says."
   pub refusals : (before : List Event) (e : Event) → Among es before e → answered e ≡ tableSays (length w) (standing w before) e
+  -- "... and as": what the table says of memory. The account is left as its calls so far make it stand, and a statement's outputs are the
+  -- rule's, zero (11) or untouched (3).
+  pub leaves : (before : List Event) (e : Event) → Among es before e → (left e .weights ≡ w) × (shown (left e) ≡ standing w (before ++ (e ∷ [])))
+  pub writes : (before : List Event) (lent : Outputs) (answer : StatementAnswer) (a : Account) (out : Outputs) →
+      Among es before (run.statement lent answer a out) →
+      out ≡ statements.left (statements.number answer) (written (length w) (parts w (standing w before))) lent
   -- "Every statement given has the number of parts, and the from, to and Wh of each, that the paper's rule gives for what then stands."
   pub statements : (before : List Event) (m : ℕ) (out : Outputs) → Given es before m out →
       (m ≡ length (parts w (standing w before))) × (out ≡ written (length w) (parts w (standing w before)))

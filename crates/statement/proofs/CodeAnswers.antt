@@ -1,21 +1,18 @@
 -- The answers of a statement (If a call declines): each way to answer meets the call's record. Assumes nothing.
-use mathlib.Core.Path.{_≡_, refl, sym, ap, ap₂, _∙_}
+use mathlib.Core.Path.{_≡_, refl, sym, ap, _∙_}
 use mathlib.Core.Bool.{Bool, true, false, not, _||_, or-true}
-use mathlib.Core.List.{[]}
 use Prim.Native.Nat.{ℕ, suc, _-_, _≤_, _<_}
 use native.Mathlib.Nat.{sub-zero}
 use native.Mathlib.Numerals.{add-one}
 use native.Mathlib.Omega.{arith}
-use lib.Dec.{eqb, ltb}
 use lib.ListN.{length, replicate}
 use borrow.Author.Tests.{ne-eqb, eq-eqb, lt-ltb, le-ltb}
 use Rattle.account.specs.Boundaries.{howMany}
 use Rattle.account.specs.Account.{Account, days, shown, unfit, sound}
 use Rattle.account.specs.Slices.{readsAt}
 use Rattle.account.specs.Table.{row, accountRows}
-use Rattle.statement.specs.declared.StatementAnswer.{StatementAnswer}
 use Rattle.statement.specs.declared.StatementAnswer.the-variants.{Parts, Unfit, Unsound, TooFewReadings}
-use Rattle.statement.specs.Parts.{Outputs, outputs, parts, written}
+use Rattle.statement.specs.Parts.{Outputs, outputs}
 use Rattle.statement.specs.Call.{StatementMet, unfitOutputs, zeroed}
 use Rattle.statement.specs.Progress.{Checked, Ready, Filled}
 use Rattle.statement.proofs.CodeSound.{checked-fit}

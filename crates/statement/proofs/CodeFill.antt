@@ -1,23 +1,20 @@
 -- All reading intervals, one after the other (Account and its calls, "Statement"): the first reading, one interval more, the last reading.
 -- Assumes nothing.
-use mathlib.Core.Path.{_≡_, sym, ap, subst, _∙_}
+use mathlib.Core.Path.{_≡_, sym, subst, _∙_}
 use mathlib.Core.Bool.{Bool, true, false}
-use mathlib.Core.List.{List, []}
 use Prim.Native.Nat.{ℕ, suc, _+_, _≤_, _<_}
-use native.Mathlib.Nat.{not-le-of-lt}
 use native.Mathlib.Numerals.{add-one}
 use native.Mathlib.Omega.{arith}
-use lib.ListN.{length, getD}
+use lib.ListN.{getD}
 use Rattle.account.specs.Boundaries.{howMany, first, last}
-use Rattle.account.specs.Stands.{Readings}
 use Rattle.account.specs.Account.{Account, days, shown}
 use Rattle.account.specs.Slices.{Fit}
 use Rattle.account.proofs.Boundaries.{IsFirst, IsLast, clash, found, first-is, last-is}
 use Rattle.statement.specs.declared.Progress.{Progress}
-use Rattle.statement.specs.Parts.{Outputs, outputs, marked, written}
+use Rattle.statement.specs.Parts.{Outputs, written}
 use Rattle.statement.specs.Progress.{NextReading, Checked, Interval, Written, Ready, Filled}
 use Rattle.statement.proofs.CodeSound.{checked-fit}
-use Rattle.statement.proofs.CodeWritten.{Long, written-first, written-last, written-long, written-same}
+use Rattle.statement.proofs.CodeWritten.{Long, written-first, written-last, written-long}
 
 -- how many there are below one boundary more
 pub many-here : (p : ℕ → Bool) (m : ℕ) → p m ≡ true → howMany p (m + 1) ≡ howMany p m + 1
@@ -31,6 +28,7 @@ many-not p m h = rw (add-one m, h) (omega arith)
 -- the parts up to the reading at which the next part starts are written, and q is the next reading, if there is one
 pub record Reached (a : Account) (q : ℕ) (o : Outputs) (d : Progress) : Type 0 where
   pub checked : Checked a
+  pub within : d .start ≤ days a
   pub here : shown a .readings .at (d .start) ≡ true
   pub next : NextReading (a .marks) (d .start + 1) q
   pub so-far : Written (a .weights) (shown a) (d .start + 1) o d
@@ -50,6 +48,7 @@ reached-first a o h p q is after =
     let first-one : IsFirst (shown a .readings .at) (suc (days a)) p = record { below = omega arith; holds = here; none-before = λ j less. is .none-before j (omega arith) less } in
     record {
       checked = h .checked;
+      within = within;
       here = here;
       next = after;
       so-far = written-first (a .weights) (shown a) p o (first-is (shown a .readings .at) first-one) here (h .clear);
@@ -59,11 +58,8 @@ module _ {a : Account} {q : ℕ} {o : Outputs} {d : Progress} (h : Reached a q o
   pub reached-fit : Fit a
   reached-fit = checked-fit a (h .checked)
 
-  reached-within : d .start ≤ days a
-  reached-within = omega (arith, reached-fit, h .next .after, h .next .within)
-
   pub reached-long : Long (days a) o
-  reached-long = written-long (a .weights) (shown a) _ o d (h .so-far) (omega arith) (omega (arith, reached-within))
+  reached-long = written-long (a .weights) (shown a) _ o d (h .so-far) (omega arith) (omega (arith, h .within))
 
   pub reached-interval : q ≤ days a → Interval a q o d
   reached-interval within =
@@ -86,10 +82,10 @@ module _ {a : Account} {q : ℕ} {o : Outputs} {d : Progress} (h : Reached a q o
   reached-next within q′ o′ d′ done after =
       let there : shown a .readings .at q ≡ true = h .next .there (omega (arith, reached-fit)) in
       let here : d′ .start ≡ q = done .start ∙ rw (add-one q, there) in
-      record { checked = h .checked; here = rw here there; next = rw here after; so-far = subst (λ (m : ℕ). Written (a .weights) (shown a) (m + 1) o′ d′) (sym here) done }
+      record { checked = h .checked; within = rw here within; here = rw here there; next = rw here after; so-far = subst (λ (m : ℕ). Written (a .weights) (shown a) (m + 1) o′ d′) (sym here) done }
 
   pub reached-last : days a < q → Filled a o (d .count)
   reached-last past =
-      let last-one : IsLast (shown a .readings .at) (suc (days a)) (d .start) = record { below = omega (arith, reached-within); holds = h .here; none-after = λ j low high. h .next .none-before j (omega arith) (omega arith) } in
-      let all = written-last (a .weights) (shown a) (d .start) o d (h .so-far) (last-is (shown a .readings .at) last-one) reached-within in
+      let last-one : IsLast (shown a .readings .at) (suc (days a)) (d .start) = record { below = omega (arith, h .within); holds = h .here; none-after = λ j low high. h .next .none-before j (omega arith) (omega arith) } in
+      let all = written-last (a .weights) (shown a) (d .start) o d (h .so-far) (last-is (shown a .readings .at) last-one) (h .within) in
       record { holds = all .0; counts = all .1 }

@@ -1,29 +1,28 @@
 -- One reading interval, as it is written (Account and its calls, "Statement"): what is known at each boundary from p to q, and the steps.
 -- Assumes nothing.
 use mathlib.Core.Path.{_≡_, refl, sym, ap, subst, _∙_}
-use mathlib.Core.Bool.{Bool, true, false, _||_}
-use mathlib.Core.List.{List}
-use Prim.Native.Nat.{ℕ, suc, _+_, _-_, _*_, _≤_, _<_, _^_}
+use mathlib.Core.Bool.{true}
+use Prim.Native.Nat.{ℕ, _+_, _-_, _*_, _≤_, _<_, _^_}
 use native.Mathlib.Nat.{mul-le-mul-right}
 use native.Mathlib.Omega.{arith}
 use lib.ListN.{length, getD}
 use Rattle.profile.specs.Limits.{spanMost, weightMost}
 use Rattle.account.specs.Boundaries.{last}
-use Rattle.account.specs.Stands.{Stands, Readings}
-use Rattle.account.specs.Account.{Account, days, shown, energyMost}
-use Rattle.account.proofs.Boundaries.{IsLast, last-found, last-most}
+use Rattle.account.specs.Account.{Account, days, shown}
+use Rattle.account.proofs.Boundaries.{IsLast, first-least, last-found, last-most}
 use Rattle.account.proofs.Sound.{mark-most}
 use Rattle.statement.specs.declared.Progress.{Progress}
 use Rattle.statement.specs.Split.{weightSum, shareOf, between, has}
-use Rattle.statement.specs.Parts.{Outputs, marked, endsPart}
+use Rattle.statement.specs.Parts.{Outputs, marked}
 use Rattle.statement.specs.Shares.{Adjacent}
 use Rattle.statement.specs.Progress.{Checked, Interval, Written, Splittable, Summable, Addable, withPart, nextPart}
-use Rattle.statement.proofs.Order.{Fair, adjacent-rise, first-before, last-after}
+use Rattle.statement.proofs.Order.{Fair, read, adjacent-rise}
+use Rattle.statement.proofs.Parts.{Ends}
 use Rattle.statement.proofs.Sums.{sum-splits, sum-positive}
 use Rattle.statement.proofs.Has.{has-reading, has-between, has-mono}
 use Rattle.statement.proofs.CodeSums.{sum-next, sum-most}
 use Rattle.statement.proofs.CodeSound.{checked-fit, checked-sound, checked-fair, mark-counts, energy-between}
-use Rattle.statement.proofs.CodeWritten.{written-same, ends-marked, written-none, written-part, written-addable}
+use Rattle.statement.proofs.CodeWritten.{written-same, written-none, written-part, written-addable}
 
 -- the parts that end below boundary k, from p to q, are written; low is what p has, e the energy and z the weights from p to q,
 -- zk the weights from p to k
@@ -65,14 +64,9 @@ pub starts-at : (a : Account) (q : ℕ) (o : Outputs) (d : Progress) → Interva
 starts-at a q o d h =
     h .so-far .value ∙ ap (has (a .weights) (shown a .readings)) (sym (h .so-far .start)) ∙ has-reading (a .weights) (shown a .readings) (d .start) (h .adjacent .one)
 
-pub interval-summable : (a : Account) (q : ℕ) (o : Outputs) (d : Progress) → Interval a q o d → (m : ℕ) → d .start ≤ m → m ≤ q → Summable (a .weights) (d .start) m
-interval-summable a q o d h m low high =
-    record {
-      ordered = low;
-      within = omega arith;
-      span = checked-fit a (h .checked) .most;
-      good = checked-fair a (h .checked) .weights;
-    }
+pub interval-summable : (a : Account) (q : ℕ) (o : Outputs) (d : Progress) → Interval a q o d → (k m : ℕ) → k ≤ m → m ≤ q → Summable (a .weights) k m
+interval-summable a q o d h k m low high =
+    record { ordered = low; within = omega arith; span = checked-fit a (h .checked) .most; good = checked-sound a (h .checked) .weights }
 
 pub interval-start : (a : Account) (q : ℕ) (o : Outputs) (d : Progress) (z zk : ℕ) → Interval a q o d → z ≡ weightSum (a .weights) (d .start) q →
     zk ≡ weightSum (a .weights) (d .start) (d .start + 1) →
@@ -133,10 +127,13 @@ module _ {a : Account} {p q low e z k zk : ℕ} {o : Outputs} {d : Progress} (h 
   addable v is =
       written-addable (a .weights) (shown a) k o d v (h .written) (started .below) (omega (arith, h .upto, h .inside)) (omega (arith, h .upto, h .inside, checked-fit a (h .checked) .most)) (rw is rises)
 
-  added : (v : ℕ) → v ≡ has (a .weights) (shown a .readings) k → marked (shown a) k ≡ true → Written (a .weights) (shown a) (k + 1) (withPart o d k v) (nextPart d k v)
+  added : (v : ℕ) → v ≡ has (a .weights) (shown a .readings) k → marked (shown a) k ≡ true →
+      Written (a .weights) (shown a) (k + 1) (withPart o d k v) (nextPart d k v)
   added v is here =
-      let ends = ends-marked (a .weights) (shown a) k (omega (arith, first-before (days a) (shown a .readings) p (omega arith) (h .adjacent .one), h .after)) (omega (arith, last-after (days a) (shown a .readings) q (h .inside) (h .adjacent .other), h .upto)) here in
-      written-part (a .weights) (shown a) k o d v (h .written) ends (omega (arith, h .after)) (omega (arith, h .upto, h .inside)) is
+      let at = shown a .readings .at in
+      let found = read (days a) (shown a .readings) q (h .inside) (h .adjacent .other) in
+      let ends : Ends (a .weights) (shown a) k = record { mark = here; after = omega (arith, first-least at (found .first) (h .adjacent .one), h .after); upto = omega (arith, last-most at (found .last) (omega (arith, h .inside)) (h .adjacent .other), h .upto) } in
+      written-part (a .weights) (shown a) k o d v (h .written) ends (omega (arith, h .upto, h .inside)) is
 
   -- one boundary on, with whatever was written there
   next : k < q → (o′ : Outputs) (d′ : Progress) → Written (a .weights) (shown a) (k + 1) o′ d′ → Within a p q low e z (k + 1) (zk + getD (a .weights) k 0) o′ d′

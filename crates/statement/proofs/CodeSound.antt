@@ -13,7 +13,7 @@ use Rattle.account.specs.Slices.{Fit}
 use Rattle.account.proofs.Boundaries.{clash, first-found, first-least, rising}
 use Rattle.account.proofs.Sound.{Sound, fit, sound-parts}
 use Rattle.statement.specs.Progress.{Checked}
-use Rattle.statement.proofs.Order.{Fair}
+use Rattle.statement.proofs.Order.{Fair, fair-of-sound}
 
 module _ (a : Account) (c : Checked a) where
   pub checked-fit : Fit a
@@ -23,7 +23,7 @@ module _ (a : Account) (c : Checked a) where
   checked-sound = sound-parts a (c .good)
 
   pub checked-fair : Fair (a .weights) (shown a .readings)
-  checked-fair = record { weights = checked-sound .weights; rises = checked-sound .order }
+  checked-fair = fair-of-sound a (c .good)
 
 -- a mark from 1 to 3 is a reading or a cut
 pub mark-counts : (m : ℕ) → m ≤ 3 → (m ≡ 0 → ⊥) → (marksReading m || marksCut m) ≡ true

@@ -1,23 +1,22 @@
 -- How the outputs of a statement grow (Account and its calls, "Statement"): from the first reading boundary by boundary to the last.
 -- Assumes nothing.
 use mathlib.Core.Path.{_≡_, refl, sym, ap, ap₂, _∙_}
-use mathlib.Core.Bool.{Bool, true, false, cond, _&&_, and-false}
+use mathlib.Core.Bool.{true, false}
 use mathlib.Core.List.{List, [], _∷_, _++_, map, map-append, append-nil, append-assoc}
 use Prim.Native.Nat.{ℕ, zero, suc, _+_, _-_, _≤_, _<_}
 use native.Mathlib.Numerals.{add-one}
 use native.Mathlib.Decide.{le-ind}
 use native.Mathlib.Omega.{arith}
-use lib.Dec.{leb, ltb}
 use lib.ListN.{length, set, replicate, length-append, length-replicate, length-map}
 use lib.Seq.{set-append-seam}
-use borrow.Author.Tests.{lt-ltb, le-ltb, le-leb, lt-leb}
 use Rattle.account.specs.Boundaries.{last}
-use Rattle.account.specs.Stands.{Stands, Readings, firstReading, lastReading}
-use Rattle.account.proofs.Boundaries.{both, last-found, last-most}
+use Rattle.account.specs.Stands.{Stands, firstReading, lastReading}
+use Rattle.account.proofs.Boundaries.{refuted}
 use Rattle.statement.specs.declared.Progress.{Progress}
 use Rattle.statement.specs.Split.{has}
 use Rattle.statement.specs.Parts.{Part, Outputs, outputs, marked, endsPart, partTo, partsBelow, parts, padded, written}
 use Rattle.statement.proofs.Has.{has-reading}
+use Rattle.statement.proofs.Parts.{Ends, ends-is, is-end, parts-fit}
 use Rattle.statement.specs.Progress.{Written, Addable, withPart, nextPart}
 
 -- Lists padded with zeros.
@@ -61,33 +60,21 @@ module _ (w : List ℕ) (s : Stands) where
   below-none m ends = rw ends (append-nil _)
 
   -- no part ends up to the first reading, nor after the last
-  ends-not : (k : ℕ) → ltb (firstReading (length w) (s .readings)) k && leb k (lastReading (length w) (s .readings)) ≡ false → endsPart w s k ≡ false
-  ends-not k h = rw h (and-false (marked s k))
-
   before-first : (k : ℕ) → k ≤ firstReading (length w) (s .readings) → endsPart w s k ≡ false
-  before-first k h = ends-not k (rw (le-ltb _ _ h))
+  before-first k h = refuted (endsPart w s k) (λ e. omega (arith, ends-is w s k e .after))
 
   after-last : (k : ℕ) → lastReading (length w) (s .readings) < k → endsPart w s k ≡ false
-  after-last k h = ends-not k (rw (lt-leb _ _ h) (and-false (ltb (firstReading (length w) (s .readings)) k)))
-
-  -- a marked boundary after a reading and not after another ends a part
-  pub ends-marked : (k : ℕ) → firstReading (length w) (s .readings) < k → k ≤ lastReading (length w) (s .readings) → marked s k ≡ true → endsPart w s k ≡ true
-  ends-marked k after upto here = rw (here, lt-ltb _ _ after, le-leb _ _ upto)
+  after-last k h = refuted (endsPart w s k) (λ e. omega (arith, ends-is w s k e .upto))
 
   none-until : (m : ℕ) → m ≤ suc (firstReading (length w) (s .readings)) → partsBelow w s m ≡ []
   unfolding partsBelow
   none-until zero h = refl
   none-until (suc m) h = below-none m (before-first m (omega arith)) ∙ none-until m (omega arith)
 
-  -- no part ends at boundary 0, so there are fewer parts than boundaries
+  -- there are fewer parts than boundaries
   fewer : (m : ℕ) → 0 < m → length (partsBelow w s m) < m
   fewer zero h = absurd (omega arith)
-  fewer (suc zero) h = rw (none-until 1 (omega arith)) (omega arith)
-  fewer (suc (suc m)) h = go (fewer (suc m) (omega arith)) (endsPart w s (suc m)) refl
-    where
-      go : length (partsBelow w s (suc m)) < suc m → (b : Bool) → endsPart w s (suc m) ≡ b → length (partsBelow w s (suc (suc m))) < suc (suc m)
-      go rest true e = rw (below-part (suc m) e, length-append) (omega arith)
-      go rest false e = rw (below-none (suc m) e) (omega arith)
+  fewer (suc m) h = omega (arith, parts-fit w s m)
 
   pub written-none : (m : ℕ) (o : Outputs) (d : Progress) → Written w s m o d → marked s m ≡ false → Written w s (m + 1) o d
   unfolding last
@@ -95,15 +82,15 @@ module _ (w : List ℕ) (s : Stands) where
       let same : partsBelow w s (suc m) ≡ partsBelow w s m = below-none m (rw bare) in
       rw add-one (record { holds = rw same (h .holds); count = rw same (h .count); start = rw bare (h .start); value = rw bare (h .value) })
 
-  pub written-part : (m : ℕ) (o : Outputs) (d : Progress) (v : ℕ) → Written w s m o d → endsPart w s m ≡ true → 0 < m → m ≤ length w →
+  pub written-part : (m : ℕ) (o : Outputs) (d : Progress) (v : ℕ) → Written w s m o d → Ends w s m → m ≤ length w →
       v ≡ has w (s .readings) m → Written w s (m + 1) (withPart o d m v) (nextPart d m v)
   unfolding last
-  written-part m o d v h ends above within is =
-      let here : marked s m ≡ true = both (marked s m) _ ends .0 in
+  written-part m o d v h ends within is =
+      let here = ends .mark in
       let ps = partsBelow w s m in
       let part = partTo w s m in
-      let room : length ps < length w = omega (arith, fewer m above) in
-      let next = below-part m ends in
+      let room : length ps < length w = omega (arith, fewer m (omega (arith, ends .after))) in
+      let next = below-part m (is-end w s m ends) in
       let store : (f : Part → ℕ) (x : ℕ) → x ≡ f part → set (padded (length w) (map f ps)) (d .count) x ≡ padded (length w) (map f (ps ++ (part ∷ []))) = λ f x same. stored (length w) ps part f (d .count) x (h .count) room same in
       rw (add-one m)
       (record {

@@ -9,7 +9,8 @@ use lib.ListN.{length}
 use borrow.Author.Tests.{le-leb, leb-true}
 use Rattle.account.specs.Stands.{Readings, neverFalling, firstReading, lastReading}
 use Rattle.account.specs.Account.{Account, days, shown, sound, goodWeights, goodMarks, zeroCounts}
-use Rattle.account.proofs.Boundaries.{IsFirst, IsLast, both, clash, refuted, first-found, first-is, first-least, last-found, last-is, last-most, rising}
+use Rattle.account.proofs.Boundaries.{IsFirst, IsLast, both, clash, refuted, first-found, first-is, last-found, last-is, rising}
+use Rattle.account.proofs.Sound.{sound-parts}
 use Rattle.statement.specs.Split.{earlier, later}
 use Rattle.statement.specs.Shares.{Adjacent}
 
@@ -19,11 +20,7 @@ pub record Fair (w : List ℕ) (r : Readings) : Type 0 where
   pub rises : neverFalling r (suc (length w)) ≡ true
 
 pub fair-of-sound : (a : Account) → sound a ≡ true → Fair (a .weights) (shown a .readings)
-fair-of-sound a h =
-    let weights = goodWeights (a .weights) in
-    let zeros = weights && goodMarks a && zeroCounts a in
-    let falls = both zeros _ (both (zeros && neverFalling (shown a .readings) (suc (days a))) _ h .0) in
-    record { weights = both weights _ (both (weights && goodMarks a) _ (falls .0) .0) .0; rises = falls .1 }
+fair-of-sound a h = let s = sound-parts a h in record { weights = s .weights; rises = s .order }
 
 -- p and q are the adjacent readings with p < k ≤ q, in an account of n days
 pub record Encloses (n : ℕ) (r : Readings) (p q k : ℕ) : Type 0 where
@@ -83,13 +80,6 @@ pub record Read (n : ℕ) (r : Readings) : Type 0 where
 pub read : (n : ℕ) (r : Readings) (k : ℕ) → k ≤ n → r .at k ≡ true → Read n r
 read n r k h at =
     record { first = first-found (r .at) (suc n) k (omega arith) at; last = last-found (r .at) (suc n) k (omega arith) at }
-
--- the first reading is not after a reading, and the last not before it
-pub first-before : (n : ℕ) (r : Readings) (k : ℕ) → k ≤ n → r .at k ≡ true → firstReading n r ≤ k
-first-before n r k h at = first-least (r .at) (read n r k h at .first) at
-
-pub last-after : (n : ℕ) (r : Readings) (k : ℕ) → k ≤ n → r .at k ≡ true → k ≤ lastReading n r
-last-after n r k h at = last-most (r .at) (read n r k h at .last) (omega arith) at
 
 module _ (w : List ℕ) (r : Readings) (fair : Fair w r) where
   pub adjacent-rise : (p q : ℕ) → Adjacent r p q → q ≤ length w → r .count p ≤ r .count q

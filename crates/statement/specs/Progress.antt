@@ -1,22 +1,21 @@
 -- How far a statement is written (Account and its calls, "Statement"): what the private functions promise each other.
 use Prim.Native.Nat.{ℕ, suc, _+_, _-_, _*_, _^_, _≤_, _<_}
 use mathlib.Core.Path.{_≡_}
-use mathlib.Core.Bool.{Bool, true, false}
+use mathlib.Core.Bool.{true, false}
 use mathlib.Core.List.{List, []}
 use lib.ListN.{length, getD, set}
 use Rattle.profile.specs.Limits.{spanMost, weightMost}
 use Rattle.account.specs.Boundaries.{howMany, last}
-use Rattle.account.specs.Stands.{Stands, Readings}
+use Rattle.account.specs.Stands.{Stands}
 use Rattle.account.specs.Account.{Account, days, shown, unfit, sound, marksReading, goodWeights, energyMost}
 use Rattle.statement.specs.declared.Progress.{Progress}
-use Rattle.statement.specs.Split.{weightSum, has}
+use Rattle.statement.specs.Split.{has}
 use Rattle.statement.specs.Parts.{Outputs, outputs, marked, partsBelow, parts, written}
 use Rattle.statement.specs.Shares.{Adjacent}
 
--- r is the first reading at or after boundary k, and one past the last boundary where there is none
+-- r is the first reading at or after boundary k, and past the last boundary where there is none
 pub record NextReading (marks : List ℕ) (k r : ℕ) : Type 0 where
   pub after : k ≤ r
-  pub within : r ≤ length marks
   pub none-before : (j : ℕ) → k ≤ j → j < r → marksReading (getD marks j 0) ≡ false
   pub there : r < length marks → marksReading (getD marks r 0) ≡ true
 

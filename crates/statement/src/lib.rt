@@ -1,14 +1,18 @@
 // The statement (Account and its calls, "Statement"): one pass over the days of an account.
+mod clear;
+mod readings;
+
+use clear::clear_boundaries;
+use clear::clear_energies;
+use readings::count_readings;
+use readings::next_reading;
 ghost use mathlib.Core.Path.{_≡_};
-ghost use Prim.Native.Nat.{_+_, _-_, _≤_, _<_};
-ghost use lib.ListN.{length, replicate};
-ghost use Rattle.account.specs.Boundaries.{howMany};
-ghost use Rattle.account.specs.Slices.{readsAt};
-ghost use Rattle.account.specs.Account.{account, shown, marksReading};
+ghost use Prim.Native.Nat.{_+_};
+ghost use Rattle.account.specs.Account.{account, shown};
 ghost use Rattle.statement.specs.Split.{weightSum, shareOf};
 ghost use Rattle.statement.specs.Parts.{outputs};
 ghost use Rattle.statement.specs.Call.{StatementMet};
-ghost use Rattle.statement.specs.Progress.{NextReading, Summable, Splittable, Addable, withPart, nextPart, Interval, Written, Ready, Filled};
+ghost use Rattle.statement.specs.Progress.{Summable, Splittable, Addable, withPart, nextPart, Interval, Written, Ready, Filled};
 
 // What a statement answers: the number of its parts, or a row of the table.
 pub enum StatementAnswer {
@@ -61,61 +65,6 @@ pub fn statement(
     }
     let parts = fill(weights, marks, counts, from, to, wh);
     StatementAnswer::Parts(parts)
-}
-
-fn clear_boundaries(d: &mut [u16])
-    ensures { λ r. ⌜ now (d .exit) ≡ replicate (length (now (d .entry))) 0 ⌝ }
-{
-    let mut i = 0;
-    while i < d.len() {
-        d[i] = 0;
-        i += 1;
-    }
-}
-
-fn clear_energies(d: &mut [u64])
-    ensures { λ r. ⌜ now (d .exit) ≡ replicate (length (now (d .entry))) 0 ⌝ }
-{
-    let mut i = 0;
-    while i < d.len() {
-        d[i] = 0;
-        i += 1;
-    }
-}
-
-fn is_reading(mark: u8) -> bool
-    ensures { λ r. ⌜ r ≡ marksReading mark ⌝ }
-{
-    mark == 2 || mark == 3
-}
-
-// The first reading at or after boundary k; one past the last boundary where there is none.
-fn next_reading(marks: &[u8], k: usize) -> usize
-    requires { ⌜ k ≤ length (now marks) ⌝ }
-    ensures { λ r. ⌜ NextReading (now (marks .entry)) k r ⌝ }
-{
-    let mut i = k;
-    while i < marks.len() {
-        if is_reading(marks[i]) {
-            return i;
-        }
-        i += 1;
-    }
-    i
-}
-
-fn count_readings(marks: &[u8]) -> usize
-    ensures { λ r. ⌜ r ≡ howMany (readsAt (now (marks .entry))) (length (now (marks .entry))) ⌝ }
-{
-    let mut count = 0;
-    let mut i = 0;
-    while i < marks.len() {
-        if is_reading(marks[i]) {
-            count += 1;
-        }
-        i += 1;
-    }
-    count
 }
 
 // The weights from day p to day q-1.

@@ -25,36 +25,24 @@ module _ (a : Account) where
 abbrev lent : tie.Start → Account
 lent c = account (c .args .weights .now) (c .args .marks .now) (c .args .counts .now)
 
-fits : (c : tie.Else1) → unfit (lent (c .before .before .before .before .before .before .before)) ≡ false
+fits : (c : tie.Else1) → unfit (lent (c .before .before .before .before .before)) ≡ false
 fits c = sym (c .before .unfit .ensures) ∙ c .if1 .left
 
 unfit-requires : tie.Need-unfit-requires
 unfit-requires c κs = tt
 
-same-length : tie.Need-same-length
-same-length c = search needs
-
-same-length-2 : tie.Need-same-length-2
-same-length-2 c = search needs
-
 returns : tie.Need-returns
 returns c =
-    let a = lent (c .before .before .before .before .before .before .before) in
+    let a = lent (c .before .before .before .before .before) in
     let is = three a (sym (c .before .unfit .ensures) ∙ c .if1 .taken) in
     record { answers = is; leaves = leaves-refused _ _ _ (λ (e : openNumber a ≡ 0). omega (arith, is ∙ e)) }
 
 good-weights-requires : tie.Need-good-weights-requires
 good-weights-requires c κs = tt
 
-same-length-3 : tie.Need-same-length-3
-same-length-3 c = search needs
-
-same-length-4 : tie.Need-same-length-4
-same-length-4 c = search needs
-
 returns-2 : tie.Need-returns-2
 returns-2 c =
-    let a = lent (c .before .before .before .before .before .before .before .before .before) in
+    let a = lent (c .before .before .before .before .before .before .before) in
     let is = five a (fits (c .before .before)) (sym (c .before .good-weights .ensures) ∙ not-true _ (c .if2 .taken)) in
     record { answers = is; leaves = leaves-refused _ _ _ (λ (e : openNumber a ≡ 0). omega (arith, is ∙ e)) }
 
@@ -64,15 +52,15 @@ clear-marks-requires c κs = tt
 clear-counts-requires : tie.Need-clear-counts-requires
 clear-counts-requires c κs = tt
 
-same-length-5 : tie.Need-same-length-5
-same-length-5 c = search needs
+same-length : tie.Need-same-length
+same-length c = search needs
 
-same-length-6 : tie.Need-same-length-6
-same-length-6 c = search needs
+same-length-2 : tie.Need-same-length-2
+same-length-2 c = search needs
 
 returns-3 : tie.Need-returns-3
 returns-3 c =
-    let start = c .before .before .before .before .before .before .before .before .before .before .before .before .before .before .before .before .before in
+    let start = c .before .before .before .before .before .before .before .before .before .before .before .before .before .before .before in
     let test = c .before .before .before .before .before .before .before .before in
     let is = none (lent start) (fits (test .before .before)) (sym (test .before .good-weights .ensures) ∙ not-false _ (test .if2 .left)) in
     record {
@@ -89,15 +77,11 @@ open-spec =
     tie.close
     (tie.spec
     unfit-requires
-    same-length
-    same-length-2
     returns
     good-weights-requires
-    same-length-3
-    same-length-4
     returns-2
     clear-marks-requires
     clear-counts-requires
-    same-length-5
-    same-length-6
+    same-length
+    same-length-2
     returns-3)

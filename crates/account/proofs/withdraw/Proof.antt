@@ -32,7 +32,9 @@ slice-read-marks : tie.Need-slice-read-marks
 slice-read-marks c = ready (c .before) .marks
 
 sub-marks : tie.Need-sub-marks
-sub-marks c = reading-least _ (not-false _ (ready (c .before) .free))
+sub-marks c =
+    let a = c .before .before .before .before .before .before .before .before .before .args in
+    omega (arith, reading-least (getD (a .marks .now) (a .k) 0) (not-false _ (ready (c .before) .free)))
 
 slice-write-marks : tie.Need-slice-write-marks
 slice-write-marks c = ready (c .before) .marks

@@ -1,8 +1,6 @@
 -- `statement::cut_value` meets its contract: e × zk fits 64 bits, and a share is at most e. Assumes nothing.
-use Prim.Native.Nat.{ℕ, _*_}
 use native.Mathlib.Nat.{mul-le-mul}
 use native.Mathlib.Omega.{arith}
-use borrow.Author.Needs.{needs}
 use Rattle.statement.specs.Split.{shareOf}
 use Rattle.statement.proofs.CodeSums.{share-most}
 use Rattle.statement.proofs.cut_value.Statement.{statement}
@@ -12,7 +10,7 @@ mul-nearest-of : tie.Need-mul-nearest-of
 mul-nearest-of c = omega (arith, mul-le-mul (c .pre .energy) (c .pre .share), mul-le-mul (c .pre .energy) (c .pre .sum))
 
 nearest-of-requires : tie.Need-nearest-of-requires
-nearest-of-requires c κs = search needs
+nearest-of-requires c κs = tt
 
 add-result : tie.Need-add-result
 unfolding shareOf

@@ -1,20 +1,14 @@
 -- `statement::fill` meets its contract. The loop's invariant is `Reached` at the next reading q. Assumes nothing.
-use mathlib.Core.Path.{_≡_, sym, ap, _∙_}
-use Prim.Native.Nat.{ℕ, _+_, _-_, _≤_, _<_}
+use mathlib.Core.Path.{sym, _∙_}
+use Prim.Native.Nat.{_+_, _-_, _<_}
 use native.Mathlib.Omega.{arith}
-use borrow.Author.Needs.{needs}
 use lib.ListN.{length}
-use Rattle.account.specs.Account.{Account, account, shown}
+use Rattle.account.specs.Account.{Account, account}
 use Rattle.statement.specs.Parts.{outputs}
 use Rattle.statement.proofs.CodeSound.{checked-fit}
-use Rattle.statement.proofs.CodeWritten.{Long}
 use Rattle.statement.proofs.CodeFill.{Reached, first-there, reached-first, reached-fit, reached-long, reached-interval, reached-next, reached-last}
 use Rattle.statement.proofs.fill.Statement.{statement}
 use Rattle.statement.proofs.fill.Tie as tie
-use Rattle.statement.proofs.fill.Reads as reads
-use Rattle.statement.proofs.fill.Lts as lts
-use Rattle.statement.proofs.fill_interval.Reads as fill-interval-reads
-use Rattle.statement.proofs.next_reading.Reads as next-reading-reads
 
 abbrev Inv-loop : tie.InvT-loop
 Inv-loop weights marks counts from₀ to₀ wh₀ n first done₀ q₀ from to wh done q = Reached (account weights marks counts) q (outputs from to wh) done
@@ -59,7 +53,7 @@ loop-holds c =
     reached-first (lent st) _ (st .pre) _ _ (c .before .before .next-reading .ensures) (c .next-reading2 .ensures)
 
 fill-interval-requires : tie.Need-fill-interval-requires Inv-loop μ-loop
-fill-interval-requires c κs = reached-interval (c .before .before .before .before .loop .inv) (c .before .before .before .loop-test .taken)
+fill-interval-requires c κs = reached-interval (c .before .before .before .before .loop .inv) (omega (arith, c .before .before .before .loop-test .taken))
 
 add-next-reading-2 : tie.Need-add-next-reading-2 Inv-loop μ-loop
 add-next-reading-2 c =
@@ -77,7 +71,7 @@ loop-less c = omega (arith, c .next-reading3 .ensures .after)
 loop-again : tie.Need-loop-again Inv-loop μ-loop
 loop-again c =
     let call = c .before .before .before .before .before .before .before in
-    reached-next (call .before .before .before .before .before .loop .inv) (call .before .before .before .before .loop-test .taken) _ _ _ (call .fill-interval .ensures) (c .next-reading3 .ensures)
+    reached-next (call .before .before .before .before .before .loop .inv) (omega (arith, call .before .before .before .before .loop-test .taken)) _ _ _ (call .fill-interval .ensures) (c .next-reading3 .ensures)
 
 same-length : tie.Need-same-length Inv-loop μ-loop
 same-length c = reached-long (c .before .loop .inv) .from ∙ sym (reached-long (loop-holds (c .before .before)) .from)
@@ -89,7 +83,7 @@ same-length-3 : tie.Need-same-length-3 Inv-loop μ-loop
 same-length-3 c = reached-long (c .before .loop .inv) .wh ∙ sym (reached-long (loop-holds (c .before .before)) .wh)
 
 returns : tie.Need-returns Inv-loop μ-loop
-returns c = reached-last (c .before .loop .inv) (c .loop-test .left)
+returns c = reached-last (c .before .loop .inv) (omega (arith, c .loop-test .left))
 
 pub fill-spec : {M : Type 1} → statement M
 fill-spec =

@@ -1,21 +1,15 @@
 -- `statement::fill_interval` meets its contract. The loop's invariant is `Within` at boundary k. Assumes nothing.
-use mathlib.Core.Path.{_≡_, sym, ap, _∙_}
+use mathlib.Core.Path.{sym, _∙_}
 use mathlib.Core.Logic.{⊎-elim}
-use Prim.Native.Nat.{ℕ, _+_, _-_, _≤_, _<_}
+use Prim.Native.Nat.{_-_}
 use native.Mathlib.Omega.{arith}
-use borrow.Author.Needs.{needs}
 use lib.ListN.{length}
-use Rattle.account.specs.Account.{Account, account, shown}
+use Rattle.account.specs.Account.{Account, account}
 use Rattle.statement.specs.Parts.{outputs}
 use Rattle.statement.proofs.CodeWritten.{Long, outputs-same, written-long}
 use Rattle.statement.proofs.CodeInterval.{Within, Room, room, starts-at, interval-summable, interval-start, within-room, within-small, within-splittable, within-addable, within-bare, within-cut, within-end-addable, within-end}
 use Rattle.statement.proofs.fill_interval.Statement.{statement}
 use Rattle.statement.proofs.fill_interval.Tie as tie
-use Rattle.statement.proofs.fill_interval.Reads as reads
-use Rattle.statement.proofs.fill_interval.Lts as lts
-use Rattle.statement.proofs.add_part.Reads as add-part-reads
-use Rattle.statement.proofs.cut_value.Reads as cut-value-reads
-use Rattle.statement.proofs.weight_sum.Reads as weight-sum-reads
 
 abbrev Inv-loop : tie.InvT-loop
 Inv-loop weights marks counts q from₀ to₀ wh₀ p low high e z k₀ zk₀ reached₀ from to wh k zk reached =
@@ -46,7 +40,7 @@ sub-e c =
 weight-sum-requires : tie.Need-weight-sum-requires Inv-loop μ-loop
 weight-sum-requires c κs =
     let st = c .before .before .before .before .before .before .before in
-    interval-summable (lent st) _ _ _ (st .pre) _ (omega (arith, start-room st)) (omega arith)
+    interval-summable (lent st) _ _ _ (st .pre) _ _ (omega (arith, start-room st)) (omega arith)
 
 add-k : tie.Need-add-k Inv-loop μ-loop
 add-k c = omega (arith, start-room (c .before .before .before .before .before .before .before .before))
@@ -54,7 +48,7 @@ add-k c = omega (arith, start-room (c .before .before .before .before .before .b
 weight-sum-requires-2 : tie.Need-weight-sum-requires-2 Inv-loop μ-loop
 weight-sum-requires-2 c κs =
     let st = c .before .before .before .before .before .before .before .before in
-    interval-summable (lent st) _ _ _ (st .pre) _ (omega arith) (omega (arith, start-room st))
+    interval-summable (lent st) _ _ _ (st .pre) _ _ (omega arith) (omega (arith, start-room st))
 
 loop-holds : tie.Need-loop-holds Inv-loop μ-loop
 loop-holds c =
@@ -98,8 +92,8 @@ loop-again c =
     let inv = c .before .before .before .before .loop .inv in
     ⊎-elim
     (λ w.
-    within-cut inv less (w .0 .taken) _ (w .1 .ensures) (outputs-same (w .12) (w .13) (w .14) ∙ w .5 .ensures .1) (w .15 ∙ w .5 .ensures .0))
-    (λ w. within-bare inv less (w .0 .left) (outputs-same (w .1) (w .2) (w .3)) (w .4))
+    within-cut inv less (omega (arith, w .0 .taken)) _ (w .1 .ensures) (outputs-same (w .12) (w .13) (w .14) ∙ w .5 .ensures .1) (w .15 ∙ w .5 .ensures .0))
+    (λ w. within-bare inv less (omega (arith, w .0 .left)) (outputs-same (w .1) (w .2) (w .3)) (w .4))
     (c .before .if1 .came)
 
 add-part-requires-2 : tie.Need-add-part-requires-2 Inv-loop μ-loop

@@ -1,5 +1,5 @@
 -- `statement::statement` meets its contract: each way to answer is one law of CodeAnswers. Assumes nothing.
-use mathlib.Core.Path.{_≡_, sym, ap, _∙_}
+use mathlib.Core.Path.{_≡_, _∙_}
 use Prim.Native.Nat.{suc}
 use native.Mathlib.Omega.{arith}
 use Rattle.account.specs.Boundaries.{howMany}
@@ -9,16 +9,8 @@ use Rattle.statement.specs.Call.{zeroed}
 use Rattle.statement.specs.Progress.{Checked}
 use Rattle.statement.proofs.CodeWritten.{Long, outputs-same}
 use Rattle.statement.proofs.CodeAnswers.{met-from, met-to, met-wh, met-account, met-unsound, checked, counted, met-few, met-parts, ready}
-use borrow.Author.Needs.{needs}
 use Rattle.statement.proofs.statement.Statement.{statement}
 use Rattle.statement.proofs.statement.Tie as tie
-use Rattle.statement.proofs.statement.Reads as reads
-use Rattle.statement.proofs.statement.Lts as lts
-use Rattle.account.proofs.check.Reads as check-reads
-use Rattle.statement.proofs.clear_boundaries.Reads as clear-boundaries-reads
-use Rattle.statement.proofs.clear_energies.Reads as clear-energies-reads
-use Rattle.statement.proofs.count_readings.Reads as count-readings-reads
-use Rattle.statement.proofs.fill.Reads as fill-reads
 
 -- what was lent
 abbrev lent : tie.Start → Account
@@ -57,7 +49,7 @@ returns-3 : tie.Need-returns-3
 returns-3 c = met-wh _ _ (c .before .before .if1 .left) (c .before .if2 .left) (c .if3 .taken)
 
 check-requires : tie.Need-check-requires
-check-requires c κs = search needs
+check-requires c κs = tt
 
 returns-4 : tie.Need-returns-4
 returns-4 c = met-account _ _ _ (c .before .check .ensures) (c .if4 .taken)
@@ -66,25 +58,25 @@ returns-5 : tie.Need-returns-5
 returns-5 c = met-unsound _ _ _ (long (c .before .before .before)) (c .before .before .check .ensures) (c .before .if4 .left) (c .if5 .taken)
 
 clear-boundaries-requires : tie.Need-clear-boundaries-requires
-clear-boundaries-requires c κs = search needs
+clear-boundaries-requires c κs = tt
 
 clear-boundaries-requires-2 : tie.Need-clear-boundaries-requires-2
-clear-boundaries-requires-2 c κs = search needs
+clear-boundaries-requires-2 c κs = tt
 
 clear-energies-requires : tie.Need-clear-energies-requires
-clear-energies-requires c κs = search needs
+clear-energies-requires c κs = tt
 
 count-readings-requires : tie.Need-count-readings-requires
-count-readings-requires c κs = search needs
+count-readings-requires c κs = tt
 
 same-length : tie.Need-same-length
-same-length c = search needs
+same-length c = c .before .before .before .before .before .before .before .before .before .before .before .before .clear-boundaries .kept .0
 
 same-length-2 : tie.Need-same-length-2
-same-length-2 c = search needs
+same-length-2 c = c .before .before .before .before .before .before .before .before .clear-boundaries2 .kept .0
 
 same-length-3 : tie.Need-same-length-3
-same-length-3 c = search needs
+same-length-3 c = c .before .before .before .before .clear-energies .kept .0
 
 returns-6 : tie.Need-returns-6
 returns-6 c =
@@ -97,13 +89,22 @@ fill-requires c κs =
     ready _ _ (long (clear at .before .before .before)) (sound (clear at)) (omega (arith, readings at)) _ (cleared at)
 
 same-length-4 : tie.Need-same-length-4
-same-length-4 c = search needs
+same-length-4 c =
+    let call = c .before .before .before .before .before .before in
+    let at = call .before .before .before .before .before in
+    call .fill .kept .1 .1 .1 .0 ∙ at .before .before .before .before .before .before .before .before .before .before .before .clear-boundaries .kept .0
 
 same-length-5 : tie.Need-same-length-5
-same-length-5 c = search needs
+same-length-5 c =
+    let call = c .before .before .before .before .before .before in
+    let at = call .before .before .before .before .before in
+    call .fill .kept .1 .1 .1 .1 .0 ∙ at .before .before .before .before .before .before .before .clear-boundaries2 .kept .0
 
 same-length-6 : tie.Need-same-length-6
-same-length-6 c = search needs
+same-length-6 c =
+    let call = c .before .before .before .before .before .before in
+    let at = call .before .before .before .before .before in
+    call .fill .kept .1 .1 .1 .1 .1 .0 ∙ at .before .before .before .clear-energies .kept .0
 
 returns-7 : tie.Need-returns-7
 returns-7 c =

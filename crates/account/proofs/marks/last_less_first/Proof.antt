@@ -1,4 +1,7 @@
 -- `account::marks::last_less_first` meets its contract: the four calls' own contracts, put together. Assumes nothing.
+use lib.ListN.{length}
+use Rattle.account.specs.Slices.{readsAt, countAt}
+use Rattle.account.proofs.Spread.{spread-made}
 use Rattle.account.proofs.marks.last_less_first.Statement.{statement}
 use Rattle.account.proofs.marks.last_less_first.Tie as tie
 
@@ -18,7 +21,14 @@ less-requires : tie.Need-less-requires
 less-requires c κs = tt
 
 returns : tie.Need-returns
-returns c = cc
+returns c =
+    let a = c .before .before .before .before .before .before .before .args in
+    spread-made (readsAt (a .marks .now)) (countAt (a .counts .now)) (length (a .marks .now))
+    (c .before .before .before .before .last-reading .ensures)
+    (c .before .before .before .count-at .ensures)
+    (c .before .before .first-reading .ensures)
+    (c .before .count-at2 .ensures)
+    (c .less .ensures)
 
 pub last-less-first-spec : {M : Type 1} → statement M
 last-less-first-spec =

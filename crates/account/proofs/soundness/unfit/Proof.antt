@@ -6,12 +6,9 @@ use borrow.Author.Needs.{needs}
 use borrow.Author.Tests.{lt-leb, le-leb, eq-eqb, ne-eqb}
 use lib.Dec.{eqb}
 use Rattle.profile.specs.Limits.{spanMost}
-use Rattle.account.specs.Account.{badSpan}
+use Rattle.account.specs.Slices.{misfit}
 use Rattle.account.proofs.soundness.unfit.Statement.{statement}
 use Rattle.account.proofs.soundness.unfit.Tie as tie
-
-abbrev misfit : ℕ → ℕ → ℕ → Bool
-misfit n m c = badSpan n || not (eqb m (n + 1)) || not (eqb c (n + 1))
 
 module _ (n m c : ℕ) where
   short : n < 1 → true ≡ misfit n m c

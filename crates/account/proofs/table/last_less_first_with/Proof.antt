@@ -1,36 +1,36 @@
-use borrow.Author.Needs.{needs}
+-- `account::table::last_less_first_with` meets its contract: the five calls' own contracts, put together. Assumes nothing.
+use mathlib.Core.Bool.{true}
+use lib.ListN.{length}
+use Rattle.account.specs.Stands.{put}
+use Rattle.account.specs.Slices.{readsAt, countAt}
+use Rattle.account.proofs.Spread.{spread-made}
 use Rattle.account.proofs.table.last_less_first_with.Statement.{statement}
 use Rattle.account.proofs.table.last_less_first_with.Tie as tie
-use Rattle.account.proofs.table.last_less_first_with.Reads as reads
-use Rattle.account.proofs.table.last_less_first_with.Lts as lts
-use Rattle.account.proofs.marks.less.Reads as less-reads
-use Rattle.account.proofs.table.count_with.Reads as count-with-reads
-use Rattle.account.proofs.table.first_reading_with.Reads as first-reading-with-reads
-use Rattle.account.proofs.table.last_reading_with.Reads as last-reading-with-reads
 
--- src/table.rt:164:41
 last-reading-with-requires : tie.Need-last-reading-with-requires
-last-reading-with-requires c κs = search needs
+last-reading-with-requires c κs = c .before .before .pre
 
--- src/table.rt:164:9
 count-with-requires : tie.Need-count-with-requires
-count-with-requires c κs = search needs
+count-with-requires c κs = tt
 
--- src/table.rt:165:42
 first-reading-with-requires : tie.Need-first-reading-with-requires
-first-reading-with-requires c κs = search needs
+first-reading-with-requires c κs = c .before .before .before .before .pre
 
--- src/table.rt:165:9
 count-with-requires-2 : tie.Need-count-with-requires-2
-count-with-requires-2 c κs = search needs
+count-with-requires-2 c κs = tt
 
--- src/table.rt:166:5
 less-requires : tie.Need-less-requires
-less-requires c κs = search needs
+less-requires c κs = tt
 
--- src/table.rt:160:1
 returns : tie.Need-returns
-returns c = cc
+returns c =
+    let a = c .before .before .before .before .before .before .before .args in
+    spread-made (put (readsAt (a .marks .now)) (a .k) true) (put (countAt (a .counts .now)) (a .k) (a .v)) (length (a .marks .now))
+    (c .before .before .before .before .last-reading-with .ensures)
+    (c .before .before .before .count-with .ensures)
+    (c .before .before .first-reading-with .ensures)
+    (c .before .count-with2 .ensures)
+    (c .less .ensures)
 
 pub last-less-first-with-spec : {M : Type 1} → statement M
 last-less-first-with-spec =

@@ -9,7 +9,8 @@ use Rattle.account.specs.Stands.{put, withReading}
 use Rattle.account.specs.Account.{Account, account, days, shown, marksReading, energyMost}
 use Rattle.account.specs.Table.{row, outOfOrder, tooMuch, readingNumber}
 use Rattle.account.specs.Slices.{readsAt, countAt, spread, boundaryRows}
-use Rattle.account.proofs.Rows.{Allowed, allowed, boundary-refuses, boundary-through, spread-is}
+use Rattle.account.proofs.Rows.{Allowed, allowed, boundary-refuses, boundary-through}
+use Rattle.account.proofs.Spread.{spread-is}
 use Rattle.account.proofs.table.reading_answer.Statement.{statement}
 use Rattle.account.proofs.table.reading_answer.Tie as tie
 

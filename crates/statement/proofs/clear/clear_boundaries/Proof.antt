@@ -1,11 +1,10 @@
--- `statement::clear_energies` meets its contract: the account's law of clearing loops. Assumes nothing.
+-- `statement::clear::clear_boundaries` meets its contract: the account's law of clearing loops. Assumes nothing.
 use Prim.Native.Nat.{_-_}
 use native.Mathlib.Omega.{arith}
-use borrow.Author.Needs.{needs}
 use lib.ListN.{length}
 use Rattle.account.proofs.Clear.{Cleared, cleared-none, cleared-more, cleared-all}
-use Rattle.statement.proofs.clear_energies.Statement.{statement}
-use Rattle.statement.proofs.clear_energies.Tie as tie
+use Rattle.statement.proofs.clear.clear_boundaries.Statement.{statement}
+use Rattle.statement.proofs.clear.clear_boundaries.Tie as tie
 
 abbrev Inv-loop : tie.InvT-loop
 Inv-loop d₀ i₀ d i = Cleared d₀ d i
@@ -17,10 +16,10 @@ loop-holds : tie.Need-loop-holds Inv-loop μ-loop
 loop-holds c = cleared-none _
 
 mul-d : tie.Need-mul-d Inv-loop μ-loop
-mul-d c = search needs
+mul-d c = omega arith
 
 slice-write-d : tie.Need-slice-write-d Inv-loop μ-loop
-slice-write-d c = search needs
+slice-write-d c = omega arith
 
 add-i : tie.Need-add-i Inv-loop μ-loop
 add-i c = omega arith
@@ -37,5 +36,5 @@ same-length c = c .before .loop .inv .long
 returns : tie.Need-returns Inv-loop μ-loop
 returns c = cleared-all (c .before .loop .inv) (c .loop-test .left)
 
-pub clear-energies-spec : {M : Type 1} → statement M
-clear-energies-spec = tie.close (tie.spec Inv-loop μ-loop loop-holds mul-d slice-write-d add-i loop-less loop-again same-length returns)
+pub clear-boundaries-spec : {M : Type 1} → statement M
+clear-boundaries-spec = tie.close (tie.spec Inv-loop μ-loop loop-holds mul-d slice-write-d add-i loop-less loop-again same-length returns)

@@ -1,7 +1,7 @@
--- `statement::is_reading` meets its contract: its two tests are those of `marksReading`. Assumes nothing.
+-- `statement::readings::is_reading` meets its contract: its two tests are those of `marksReading`. Assumes nothing.
 use borrow.Author.Tests.{eq-eqb, ne-eqb}
-use Rattle.statement.proofs.is_reading.Statement.{statement}
-use Rattle.statement.proofs.is_reading.Tie as tie
+use Rattle.statement.proofs.readings.is_reading.Statement.{statement}
+use Rattle.statement.proofs.readings.is_reading.Tie as tie
 
 returns : tie.Need-returns
 returns c = simp (eq-eqb _ _ (c .if1 .taken))

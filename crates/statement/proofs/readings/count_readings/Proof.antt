@@ -1,15 +1,14 @@
--- `statement::count_readings` meets its contract. The loop's invariant: the readings below boundary i are counted. Assumes nothing.
+-- `statement::readings::count_readings` meets its contract. The loop's invariant: the readings below boundary i are counted. Assumes nothing.
 use mathlib.Core.Path.{_≡_, refl, sym, ap, _∙_}
 use mathlib.Core.Logic.{⊎-elim}
 use Prim.Native.Nat.{ℕ, _+_, _-_, _≤_}
 use native.Mathlib.Omega.{arith}
-use borrow.Author.Needs.{needs}
 use lib.ListN.{length}
 use Rattle.account.specs.Boundaries.{howMany}
 use Rattle.account.specs.Slices.{readsAt}
 use Rattle.statement.proofs.CodeFill.{many-here, many-not}
-use Rattle.statement.proofs.count_readings.Statement.{statement}
-use Rattle.statement.proofs.count_readings.Tie as tie
+use Rattle.statement.proofs.readings.count_readings.Statement.{statement}
+use Rattle.statement.proofs.readings.count_readings.Tie as tie
 
 abbrev Inv-loop : tie.InvT-loop
 Inv-loop marks count₀ i₀ count i = (i ≤ length marks) × (count ≤ i) × (count ≡ howMany (readsAt marks) i)
@@ -25,7 +24,7 @@ shared-slice-read-is-reading : tie.Need-shared-slice-read-is-reading Inv-loop μ
 shared-slice-read-is-reading c = omega arith
 
 is-reading-requires : tie.Need-is-reading-requires Inv-loop μ-loop
-is-reading-requires c κs = search needs
+is-reading-requires c κs = tt
 
 add-count : tie.Need-add-count Inv-loop μ-loop
 add-count c = omega arith

@@ -1,0 +1,23 @@
+// Outputs set to zero over their whole length (If a call declines, "outputs zero"). Every function is total.
+ghost use mathlib.Core.Path.{_≡_};
+ghost use lib.ListN.{length, replicate};
+
+pub fn clear_boundaries(d: &mut [u16])
+    ensures { λ r. ⌜ now (d .exit) ≡ replicate (length (now (d .entry))) 0 ⌝ }
+{
+    let mut i = 0;
+    while i < d.len() {
+        d[i] = 0;
+        i += 1;
+    }
+}
+
+pub fn clear_energies(wh: &mut [u64])
+    ensures { λ r. ⌜ now (wh .exit) ≡ replicate (length (now (wh .entry))) 0 ⌝ }
+{
+    let mut i = 0;
+    while i < wh.len() {
+        wh[i] = 0;
+        i += 1;
+    }
+}

@@ -1,0 +1,42 @@
+// Readings as the marks show them (Account and its calls). Every function is total.
+ghost use mathlib.Core.Path.{_≡_};
+ghost use lib.ListN.{length};
+ghost use Rattle.account.specs.Boundaries.{howMany};
+ghost use Rattle.account.specs.Account.{marksReading};
+ghost use Rattle.account.specs.Slices.{readsAt};
+ghost use Rattle.statement.specs.Progress.{NextReading};
+
+fn is_reading(mark: u8) -> bool
+    ensures { λ r. ⌜ r ≡ marksReading mark ⌝ }
+{
+    mark == 2 || mark == 3
+}
+
+// The first reading at or after boundary k; past the last boundary where there is none.
+pub fn next_reading(marks: &[u8], k: usize) -> usize
+    ensures { λ r. ⌜ NextReading (now (marks .entry)) k r ⌝ }
+{
+    let mut i = k;
+    while i < marks.len() {
+        if is_reading(marks[i]) {
+            return i;
+        }
+        i += 1;
+    }
+    i
+}
+
+// How many boundaries have a reading.
+pub fn count_readings(marks: &[u8]) -> usize
+    ensures { λ r. ⌜ r ≡ howMany (readsAt (now (marks .entry))) (length (now (marks .entry))) ⌝ }
+{
+    let mut count = 0;
+    let mut i = 0;
+    while i < marks.len() {
+        if is_reading(marks[i]) {
+            count += 1;
+        }
+        i += 1;
+    }
+    count
+}
