@@ -7,7 +7,7 @@ ghost use Rattle.account.specs.Account.{marksReading, marksCut};
 ghost use Rattle.account.specs.Slices.{readsAt, countAt, spread};
 
 // "2 reading, 3 both"
-pub fn is_reading(m: u8) -> bool
+pub(crate) fn is_reading(m: u8) -> bool
     ensures { λ r. ⌜ r ≡ marksReading m ⌝ }
 {
     if m == 2 {
@@ -17,7 +17,7 @@ pub fn is_reading(m: u8) -> bool
 }
 
 // "1 cut, 3 both"
-pub fn is_cut(m: u8) -> bool
+pub(crate) fn is_cut(m: u8) -> bool
     ensures { λ r. ⌜ r ≡ marksCut m ⌝ }
 {
     if m == 1 {
@@ -27,7 +27,7 @@ pub fn is_cut(m: u8) -> bool
 }
 
 // The first boundary with a reading; the number of boundaries where there is none.
-pub fn first_reading(marks: &[u8]) -> usize
+pub(crate) fn first_reading(marks: &[u8]) -> usize
     ensures { λ r. ⌜ r ≡ boundaries.first (readsAt (now (marks .entry))) (length (now (marks .entry))) ⌝ }
 {
     let mut k = 0;
@@ -41,7 +41,7 @@ pub fn first_reading(marks: &[u8]) -> usize
 }
 
 // The last boundary with a reading; 0 where there is none.
-pub fn last_reading(marks: &[u8]) -> usize
+pub(crate) fn last_reading(marks: &[u8]) -> usize
     ensures { λ r. ⌜ r ≡ boundaries.last (readsAt (now (marks .entry))) (length (now (marks .entry))) ⌝ }
 {
     let mut k = marks.len();
@@ -55,7 +55,7 @@ pub fn last_reading(marks: &[u8]) -> usize
 }
 
 // The mark and the count at boundary k, 0 past the last.
-pub fn mark_at(marks: &[u8], k: usize) -> u8
+pub(crate) fn mark_at(marks: &[u8], k: usize) -> u8
     ensures { λ r. ⌜ r ≡ getD (now (marks .entry)) k 0 ⌝ }
 {
     if k < marks.len() {
@@ -64,7 +64,7 @@ pub fn mark_at(marks: &[u8], k: usize) -> u8
     0
 }
 
-pub fn count_at(counts: &[u64], k: usize) -> u64
+pub(crate) fn count_at(counts: &[u64], k: usize) -> u64
     ensures { λ r. ⌜ r ≡ countAt (now (counts .entry)) k ⌝ }
 {
     if k < counts.len() {
@@ -74,7 +74,7 @@ pub fn count_at(counts: &[u64], k: usize) -> u64
 }
 
 // What x has above y, 0 where it has none.
-pub fn less(x: u64, y: u64) -> u64
+pub(crate) fn less(x: u64, y: u64) -> u64
     ensures { λ r. ⌜ r ≡ x - y ⌝ }
 {
     if x < y {
@@ -84,7 +84,7 @@ pub fn less(x: u64, y: u64) -> u64
 }
 
 // The last reading's count less the first one's.
-pub fn last_less_first(marks: &[u8], counts: &[u64]) -> u64
+pub(crate) fn last_less_first(marks: &[u8], counts: &[u64]) -> u64
     ensures { λ r. ⌜ r ≡ spread (readsAt (now (marks .entry))) (countAt (now (counts .entry))) (length (now (marks .entry))) ⌝ }
 {
     let last = count_at(counts, last_reading(marks));
@@ -92,7 +92,7 @@ pub fn last_less_first(marks: &[u8], counts: &[u64]) -> u64
     less(last, first)
 }
 
-pub fn clear_marks(marks: &mut [u8])
+pub(crate) fn clear_marks(marks: &mut [u8])
     ensures { λ _. ⌜ now (marks .exit) ≡ replicate (length (now (marks .entry))) 0 ⌝ }
 {
     let mut k = 0;
@@ -102,7 +102,7 @@ pub fn clear_marks(marks: &mut [u8])
     }
 }
 
-pub fn clear_counts(counts: &mut [u64])
+pub(crate) fn clear_counts(counts: &mut [u64])
     ensures { λ _. ⌜ now (counts .exit) ≡ replicate (length (now (counts .entry))) 0 ⌝ }
 {
     let mut k = 0;

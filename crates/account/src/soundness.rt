@@ -6,7 +6,7 @@ ghost use Rattle.account.specs.Account.{account};
 ghost use Rattle.account.specs.Slices.{Fit, misfit, goodBoundaries};
 
 // Row 3: n outside 1 to 1,096, or marks or counts not n+1 long.
-pub fn unfit(n: usize, marks: usize, counts: usize) -> bool
+pub(crate) fn unfit(n: usize, marks: usize, counts: usize) -> bool
     ensures { λ r. ⌜ r ≡ misfit n marks counts ⌝ }
 {
     if n < 1 {
@@ -22,7 +22,7 @@ pub fn unfit(n: usize, marks: usize, counts: usize) -> bool
 }
 
 // In one pass: marks 0 to 3, no count without a reading, readings never falling. `last` is the last reading's count, 0 before the first.
-pub fn good_boundaries(weights: &[u32], marks: &[u8], counts: &[u64]) -> bool
+pub(crate) fn good_boundaries(weights: &[u32], marks: &[u8], counts: &[u64]) -> bool
     requires { ⌜ Fit (account (now weights) (now marks) (now counts)) ⌝ }
     ensures { λ r. ⌜ r ≡ goodBoundaries (account (now (weights .entry)) (now (marks .entry)) (now (counts .entry))) ⌝ }
 {

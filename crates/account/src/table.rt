@@ -23,7 +23,7 @@ ghost use Rattle.account.specs.Calls.{number};
 ghost use Rattle.account.specs.Slices.{Fit, boundaryRows, nextRow, readsAt, countAt, spread};
 
 // The rows of every call on a boundary: 3, 5 and 6.
-pub fn boundary_answer(weights: &[u32], marks: &[u8], counts: &[u64], k: usize) -> Answer
+pub(crate) fn boundary_answer(weights: &[u32], marks: &[u8], counts: &[u64], k: usize) -> Answer
     ensures { λ r. ⌜ number r ≡ boundaryRows (account (now (weights .entry)) (now (marks .entry)) (now (counts .entry))) k 0 ⌝ }
 {
     let n = check(weights, marks, counts);
@@ -53,7 +53,7 @@ fn next_row(answer: Answer, holds: bool, refusal: Answer) -> Answer
 }
 
 // Withdraw: 3, 5, 6, 10.
-pub fn withdraw_answer(weights: &[u32], marks: &[u8], counts: &[u64], k: usize) -> Answer
+pub(crate) fn withdraw_answer(weights: &[u32], marks: &[u8], counts: &[u64], k: usize) -> Answer
     ensures { λ r. ⌜ number r ≡ withdrawNumber (account (now (weights .entry)) (now (marks .entry)) (now (counts .entry))) k ⌝ }
 {
     let answer = boundary_answer(weights, marks, counts, k);
@@ -61,7 +61,7 @@ pub fn withdraw_answer(weights: &[u32], marks: &[u8], counts: &[u64], k: usize) 
 }
 
 // Cut: 3, 5, 6, 7.
-pub fn cut_answer(weights: &[u32], marks: &[u8], counts: &[u64], k: usize) -> Answer
+pub(crate) fn cut_answer(weights: &[u32], marks: &[u8], counts: &[u64], k: usize) -> Answer
     ensures { λ r. ⌜ number r ≡ cutNumber (account (now (weights .entry)) (now (marks .entry)) (now (counts .entry))) k ⌝ }
 {
     let answer = boundary_answer(weights, marks, counts, k);
@@ -69,7 +69,7 @@ pub fn cut_answer(weights: &[u32], marks: &[u8], counts: &[u64], k: usize) -> An
 }
 
 // Uncut: 3, 5, 6, 10.
-pub fn uncut_answer(weights: &[u32], marks: &[u8], counts: &[u64], k: usize) -> Answer
+pub(crate) fn uncut_answer(weights: &[u32], marks: &[u8], counts: &[u64], k: usize) -> Answer
     ensures { λ r. ⌜ number r ≡ uncutNumber (account (now (weights .entry)) (now (marks .entry)) (now (counts .entry))) k ⌝ }
 {
     let answer = boundary_answer(weights, marks, counts, k);
@@ -77,7 +77,13 @@ pub fn uncut_answer(weights: &[u32], marks: &[u8], counts: &[u64], k: usize) -> 
 }
 
 // Reading: 3, 5, 6, 7, 8, 9.
-pub fn reading_answer(weights: &[u32], marks: &[u8], counts: &[u64], k: usize, v: u64) -> Answer
+pub(crate) fn reading_answer(
+    weights: &[u32],
+    marks: &[u8],
+    counts: &[u64],
+    k: usize,
+    v: u64,
+) -> Answer
     ensures { λ r. ⌜ number r ≡ readingNumber (account (now (weights .entry)) (now (marks .entry)) (now (counts .entry))) k v ⌝ }
 {
     let answer = boundary_answer(weights, marks, counts, k);

@@ -20,7 +20,7 @@ use Rattle.statement.proofs.Order.{Fair, fair-of-sound}
 use Rattle.statement.proofs.Facts.{TwoRead, sums-up, shared, same-energy}
 use Rattle.history.specs.Run.{Event, Step, Run, standing}
 use Rattle.history.specs.Run as run
-use Rattle.history.specs.Demand3.{Demand3, Among, Given}
+use Rattle.history.specs.Demand3.{Demand3, Claim, Among, Given}
 use Rattle.history.proofs.Invariant.{along, table-says, leaves-standing}
 
 -- a statement of m parts that was given where s stands: the rule's, and all that the rule's facts ask
@@ -81,6 +81,5 @@ opens before opened answer met done =
     let zero : openNumber before ≡ 0 = sym (met .answers) ∙ done in
     rw (rw zero at (met .leaves)) (open-keeps before zero)
 
-pub demand3 : (before opened : Account) (answer : Answer) → OpenMet before answer opened → number answer ≡ 0 →
-    (es : List Event) → Run opened es → Demand3 (before .weights) es
+pub demand3 : Claim
 demand3 before opened answer met done es runs = claims (before .weights) opened (opens before opened answer met done) es runs

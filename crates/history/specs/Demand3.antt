@@ -6,13 +6,15 @@ use mathlib.Core.Bool.{true}
 use mathlib.Core.List.{List, [], _∷_, _++_}
 use lib.ListN.{length, getD}
 use Rattle.account.specs.Account.{Account, shown}
+use Rattle.account.specs.declared.Answer.{Answer}
+use Rattle.account.specs.Calls.{OpenMet, number}
 use Rattle.account.specs.Stands.{lastLessFirst}
 use Rattle.statement.specs.declared.StatementAnswer.the-variants.{Parts}
 use Rattle.statement.specs.Parts.{Outputs, parts, written, marked}
 use Rattle.statement.specs.Shares.{Adjacent, Shared, total, energy}
 use Rattle.statement.specs.declared.StatementAnswer.{StatementAnswer}
 use Rattle.statement.specs.Call as statements
-use Rattle.history.specs.Run.{Event, left, answered, tableSays, standing}
+use Rattle.history.specs.Run.{Event, Run, left, answered, tableSays, standing}
 use Rattle.history.specs.Run as run
 
 -- e is the event of the list that comes after `before`
@@ -50,3 +52,9 @@ pub record Demand3 (w : List ℕ) (es : List Event) : Type 0 where
       standing w before₁ .readings .count q ≡ standing w before₂ .readings .count q →
       p ≤ b → b ≤ q → marked (standing w before₁) b ≡ true → marked (standing w before₂) b ≡ true →
       energy out₁ p b m₁ ≡ energy out₂ p b m₂
+
+-- The claim: for every accepted open, from any contents of marks and counts, and every list of calls that runs after it.
+abbrev pub Claim : Type 0
+Claim =
+    (before opened : Account) (answer : Answer) → OpenMet before answer opened → number answer ≡ 0 →
+    (es : List Event) → Run opened es → Demand3 (before .weights) es

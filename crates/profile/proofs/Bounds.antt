@@ -83,6 +83,11 @@ module _ (p : Profile) (ok : Tested p) where
           less-sum (pos (p .a * 100)) (linear p coldest) .less,
         ))
 
+-- of a natural number the floor is the quotient
+floor-natural : (z : ℤ) (f d : ℕ) → T (nonNeg z) → natAbs z * f / d ≡ natAbs (floorℤ (z *ℤ pos f) d)
+floor-natural (pos n) f d t = refl
+floor-natural (negsuc n) f d t = absurd t
+
 -- ---- the table's values and weights
 module _ (k : ℕ) (t : ℤ) (h : k < profileCount) (r : inRange t ≡ true) where
   low-curve : profileOf k .a * 100 * sLow (profileOf k) t / one ≤ profileOf k .a * 100
@@ -123,6 +128,11 @@ module _ (k : ℕ) (t : ℤ) (h : k < profileCount) (r : inRange t ≡ true) whe
   pub high-fits : SFits w64 (valueHigh (profileOf k) t)
   high-fits = sfits (valueHigh (profileOf k) t) (omega (arith, at-most 0 (10 ^ 10) high-natural high-bounded))
 
+  -- a weight is the quotient of natural numbers
+  pub weight-quotient : (w : ℕ) → natAbs (valueLow (profileOf k) t) * factorOf k w / 10_000_000 ≡ weightOf k w t
+  unfolding weightOf
+  weight-quotient w = floor-natural (valueLow (profileOf k) t) (factorOf k w) 10_000_000 (yes-nonNeg low-natural)
+
   module _ (w : ℕ) (g : w < 7) where
     heavy : pos weightLeast ≤ℤ floorWeight k w t
     heavy =
@@ -151,13 +161,3 @@ low-sum p t e f g = simp (f, g, e)
 pub high-sum : (p : Profile) (t : ℤ) {s : ℕ} {x y : ℤ} → s ≡ sHigh p t → x ≡ pos (upward (p .a * 100 * s) (2 ^ 30)) → y ≡ linear p t → x +ℤ y ≡ valueHigh p t
 unfolding valueHigh one
 high-sum p t e f g = simp (f, g, e)
-
--- of a natural number the floor is the quotient
-floor-natural : (z : ℤ) (f d : ℕ) → T (nonNeg z) → natAbs z * f / d ≡ natAbs (floorℤ (z *ℤ pos f) d)
-floor-natural (pos n) f d t = refl
-floor-natural (negsuc n) f d t = absurd t
-
-pub weight-quotient : (k w : ℕ) (t : ℤ) → k < profileCount → inRange t ≡ true → natAbs (valueLow (profileOf k) t) * factorOf k w / 10_000_000 ≡ weightOf k w t
-unfolding weightOf
-weight-quotient k w t h r =
-    floor-natural (valueLow (profileOf k) t) (factorOf k w) 10_000_000 (yes-nonNeg (low-natural k t h r))

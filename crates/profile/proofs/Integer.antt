@@ -3,7 +3,7 @@
 use mathlib.Core.Path.{_≡_, _∙_, refl, ap}
 use mathlib.Core.Bool.{Bool, true, false, not, cond}
 use Prim.Native.Nat.{ℕ, zero, suc, _+_, _*_, _-_, _/_, _≤_, _<_, _^_}
-use native.Mathlib.Nat.{mul-le-mul-left, mul-le-mul-right, zero-mul, zero-add, le-refl, lt-trans, lt-suc-self, le-div-iff-mul-le, div-mul-le-self}
+use native.Mathlib.Nat.{mul-le-mul-left, mul-le-mul-right, zero-mul, zero-add, lt-trans, lt-suc-self, le-div-iff-mul-le, div-mul-le-self}
 use native.Mathlib.Omega.{arith}
 use lib.Dec.{T, leb, ltb, leb→le, le→leb, ltb→lt, nltb→le, nleb→lt}
 use lib.IntN.{ℤ, pos, negsuc, negℤ, natAbs, subℕ, _+ℤ_, _-ℤ_, _*ℤ_}
@@ -34,24 +34,24 @@ choose P false x y f g = g tt
 less-sub : (a b : ℕ) → Less (subℕ a b) a b
 less-sub a b =
     choose (λ (z : ℤ). Less z a b) (ltb a b) (negsuc (b - suc a)) (pos (a - b))
-    (λ t. let h : a < b = ltb→lt a b t in record { less = omega arith; small = omega arith })
-    (λ t. let h : b ≤ a = nltb→le a b t in record { less = omega arith; small = omega arith })
+    (λ t. let h : a < b = ltb→lt a b t in omega arith)
+    (λ t. let h : b ≤ a = nltb→le a b t in omega arith)
 
 less-neg : (n : ℕ) → Less (negℤ (pos n)) 0 n
-less-neg zero = record { less = refl; small = le-refl 0 }
-less-neg (suc n) = record { less = omega arith; small = omega arith }
+less-neg zero = omega arith
+less-neg (suc n) = omega arith
 
 pub less-sum : (x y : ℤ) → Less (x +ℤ y) (above x + above y) (below x + below y)
-less-sum (pos a) (pos b) = record { less = omega arith; small = omega arith }
-less-sum (pos a) (negsuc b) = let l = less-sub a (suc b) in record { less = omega (arith, l .less); small = omega (arith, l .small) }
-less-sum (negsuc a) (pos b) = let l = less-sub b (suc a) in record { less = omega (arith, l .less); small = omega (arith, l .small) }
-less-sum (negsuc a) (negsuc b) = record { less = omega arith; small = omega arith }
+less-sum (pos a) (pos b) = omega arith
+less-sum (pos a) (negsuc b) = let l = less-sub a (suc b) in omega arith
+less-sum (negsuc a) (pos b) = let l = less-sub b (suc a) in omega arith
+less-sum (negsuc a) (negsuc b) = omega arith
 
 pub less-product : (x y : ℤ) → Less (x *ℤ y) (above x * above y + below x * below y) (above x * below y + below x * above y)
-less-product (pos a) (pos b) = record { less = omega arith; small = omega arith }
-less-product (pos a) (negsuc b) = let l = less-neg (a * suc b) in record { less = omega (arith, l .less); small = omega (arith, l .small) }
-less-product (negsuc a) (pos b) = let l = less-neg (suc a * b) in record { less = omega (arith, l .less); small = omega (arith, l .small) }
-less-product (negsuc a) (negsuc b) = record { less = omega arith; small = omega arith }
+less-product (pos a) (pos b) = omega arith
+less-product (pos a) (negsuc b) = let l = less-neg (a * suc b) in omega arith
+less-product (negsuc a) (pos b) = let l = less-neg (suc a * b) in omega arith
+less-product (negsuc a) (negsuc b) = omega arith
 
 -- ---- the order
 le-parts : (x y : ℤ) → T (leZ x y) → above x + below y ≤ above y + below x
@@ -186,6 +186,6 @@ size {z = z} f = natAbs-le z (f .sfits)
 pub widened : (w′ : Width) {w : Width} {z : ℤ} → SFits w z → T (leb (hbits w) (hbits w′)) → toZ w′ (ofZ w′ (toZ w (ofZ w z))) ≡ z
 widened w′ f t = ap (λ (x : ℤ). toZ w′ (ofZ w′ x)) (toZ-ofZ f) ∙ toZ-ofZ (sfits-widen t f)
 
--- a call's result, as the record of the call has its range, and a test of two
+-- a call's result, as the record of the call has its range
 pub kept : (z : ℤ) → mag z < 2 ^ 63 → toZ w64 (ofZ w64 z) ≡ z
 kept z h = toZ-ofZ (record { sfits = h })

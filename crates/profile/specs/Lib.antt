@@ -1,3 +1,4 @@
+-- What the contracts of crate profile cite: `Profiles`, `Profile value`, `If a call declines`.
 pub mod Limits
 pub mod Table
 pub mod Value

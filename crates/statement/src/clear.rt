@@ -2,7 +2,7 @@
 ghost use mathlib.Core.Path.{_≡_};
 ghost use lib.ListN.{length, replicate};
 
-pub fn clear_boundaries(d: &mut [u16])
+pub(crate) fn clear_boundaries(d: &mut [u16])
     ensures { λ r. ⌜ now (d .exit) ≡ replicate (length (now (d .entry))) 0 ⌝ }
 {
     let mut i = 0;
@@ -12,7 +12,7 @@ pub fn clear_boundaries(d: &mut [u16])
     }
 }
 
-pub fn clear_energies(wh: &mut [u64])
+pub(crate) fn clear_energies(wh: &mut [u64])
     ensures { λ r. ⌜ now (wh .exit) ≡ replicate (length (now (wh .entry))) 0 ⌝ }
 {
     let mut i = 0;

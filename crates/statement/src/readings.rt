@@ -13,7 +13,7 @@ fn is_reading(mark: u8) -> bool
 }
 
 // The first reading at or after boundary k; past the last boundary where there is none.
-pub fn next_reading(marks: &[u8], k: usize) -> usize
+pub(crate) fn next_reading(marks: &[u8], k: usize) -> usize
     ensures { λ r. ⌜ NextReading (now (marks .entry)) k r ⌝ }
 {
     let mut i = k;
@@ -27,7 +27,7 @@ pub fn next_reading(marks: &[u8], k: usize) -> usize
 }
 
 // How many boundaries have a reading.
-pub fn count_readings(marks: &[u8]) -> usize
+pub(crate) fn count_readings(marks: &[u8]) -> usize
     ensures { λ r. ⌜ r ≡ howMany (readsAt (now (marks .entry))) (length (now (marks .entry))) ⌝ }
 {
     let mut count = 0;

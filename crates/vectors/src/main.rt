@@ -1,4 +1,5 @@
 // Prints outside numbers through the exported calls, to be compared with the stored output (By program).
+use customer::CustomerAnswer;
 use libc::STDOUT_FILENO;
 use profile::Profile;
 use profile::ValueAnswer;
@@ -11,6 +12,19 @@ fn word(text: &[u8]) {
 
 fn number(n: u64) {
     io::print_decimal(STDOUT_FILENO, n);
+}
+
+fn labelled(label: &[u8], n: u64) {
+    word(label);
+    number(n);
+}
+
+fn refused(row: u64) {
+    labelled(b"refused ", row);
+}
+
+fn end_line() {
+    word(b"\n");
 }
 
 fn from_u16(x: u16) -> u64
@@ -45,77 +59,93 @@ fn signed(x: i64) {
     number(size(x));
 }
 
+// The five letters of a profile's name.
+fn letters(names: &[u8], profile: u8) {
+    let from = 5 * (profile as usize);
+    let to = from + 5;
+    if to <= names.len() {
+        word(&names[from..to]);
+    }
+}
+
+fn name(profile: u8) {
+    letters(
+        b"HEF33HMF33HKO03GHD33GMK33GKO33GBH33GBA33GGA33GMF33",
+        profile,
+    );
+}
+
 // The allocation temperature of document 000, today first: -2.0, 0.5, 3.4, 3.6 degrees.
 fn temperature() {
     word(b"temperature of -200, 50, 340, 360: ");
     match weights::temperature(-200, 50, 340, 360) {
         TemperatureAnswer::Temperature(t) => signed(from_i16(t)),
-        TemperatureAnswer::OutOfRange(k) => word(b"refused 4"),
+        TemperatureAnswer::OutOfRange(k) => refused(4),
     }
-    word(b"\n");
+    end_line();
+}
+
+fn bounds(low: i64, high: i64) {
+    signed(low);
+    word(b" to ");
+    signed(high);
 }
 
 // A profile's value at a temperature in hundredths, low and high, in units of 10^-9.
-fn value(label: &[u8], profile: u8, t: i16) {
-    word(label);
+fn value(profile: u8, t: i16) {
+    name(profile);
+    word(b" at ");
+    signed(from_i16(t));
+    word(b": ");
     match profile::value(profile, t) {
-        ValueAnswer::Value { low, high } => {
-            word(b": ");
-            signed(low);
-            word(b" to ");
-            signed(high);
-        }
-        ValueAnswer::NoProfile => word(b": refused 1"),
-        ValueAnswer::OutOfRange => word(b": refused 4"),
+        ValueAnswer::Value { low, high } => bounds(low, high),
+        ValueAnswer::NoProfile => refused(1),
+        ValueAnswer::OutOfRange => refused(4),
     }
-    word(b"\n");
+    end_line();
 }
 
-// The ten profiles at 8.00 degrees.
+// The ten profiles at 8.00 degrees; the one whose ratio is one at 7.00; and where the larger of the two lines changes
+// (document 000, column Temp.-KP), with one hundredth above.
 fn values() {
-    value(b"HEF33 at 8.00", 0, 800);
-    value(b"HMF33 at 8.00", 1, 800);
-    value(b"HKO03 at 8.00", 2, 800);
-    value(b"GHD33 at 8.00", 3, 800);
-    value(b"GMK33 at 8.00", 4, 800);
-    value(b"GKO33 at 8.00", 5, 800);
-    value(b"GBH33 at 8.00", 6, 800);
-    value(b"GBA33 at 8.00", 7, 800);
-    value(b"GGA33 at 8.00", 8, 800);
-    value(b"GMF33 at 8.00", 9, 800);
+    value(0, 800);
+    value(1, 800);
+    value(2, 800);
+    value(3, 800);
+    value(4, 800);
+    value(5, 800);
+    value(6, 800);
+    value(7, 800);
+    value(8, 800);
+    value(9, 800);
+    value(7, 700);
+    value(0, 1546);
+    value(0, 1547);
+    value(3, 1472);
+    value(3, 1473);
+    value(7, 869);
+    value(7, 870);
+    value(5, 1480);
+    value(5, 1481);
 }
 
-// Whether both bounds of a value, in units of 10^-9, lie within 0.00001 of 1.
-fn near_one(low: i64, high: i64) -> bool {
-    999_990_000 <= low && high <= 1_000_010_000
+// Whether a value, in units of 10^-9, lies within 0.00001 of 1.
+fn near_one(low: i64, high: i64) {
+    if 999_990_000 <= low && high <= 1_000_010_000 {
+        word(b"yes");
+        return;
+    }
+    word(b"no");
 }
 
 fn near() {
-    word(b"GHD33 at 8.00 within 0.00001 of 1: ");
+    word(b"GHD33 at 800 within 0.00001 of 1: ");
     match profile::value(3, 800) {
-        ValueAnswer::Value { low, high } => {
-            if near_one(low, high) {
-                word(b"yes");
-            } else {
-                word(b"no");
-            }
-        }
-        ValueAnswer::NoProfile => word(b"refused 1"),
-        ValueAnswer::OutOfRange => word(b"refused 4"),
+        ValueAnswer::Value { low, high } => near_one(low, high),
+        ValueAnswer::NoProfile => refused(1),
+        ValueAnswer::OutOfRange => refused(4),
     }
-    word(b"\n");
-}
-
-// Where the larger of the two lines changes (document 000, column Temp.-KP), and one hundredth above.
-fn crossings() {
-    value(b"HEF33 at 15.46", 0, 1546);
-    value(b"HEF33 at 15.47", 0, 1547);
-    value(b"GHD33 at 14.72", 3, 1472);
-    value(b"GHD33 at 14.73", 3, 1473);
-    value(b"GBA33 at 8.69", 7, 869);
-    value(b"GBA33 at 8.70", 7, 870);
-    value(b"GKO33 at 14.80", 5, 1480);
-    value(b"GKO33 at 14.81", 5, 1481);
+    end_line();
 }
 
 // The sum of a profile's weekday factors.
@@ -130,24 +160,24 @@ fn week(profile: u8) -> u64 {
     sum
 }
 
-fn week_of(profile: u8, label: &[u8]) {
-    word(label);
-    number(week(profile));
-    word(b"\n");
+fn factors(profile: u8) {
+    name(profile);
+    labelled(b" factors: ", week(profile));
+    end_line();
 }
 
 // Each row of table 5 adds up to 70,000.
 fn weeks() {
-    week_of(0, b"HEF33 factors: ");
-    week_of(1, b"HMF33 factors: ");
-    week_of(2, b"HKO03 factors: ");
-    week_of(3, b"GHD33 factors: ");
-    week_of(4, b"GMK33 factors: ");
-    week_of(5, b"GKO33 factors: ");
-    week_of(6, b"GBH33 factors: ");
-    week_of(7, b"GBA33 factors: ");
-    week_of(8, b"GGA33 factors: ");
-    week_of(9, b"GMF33 factors: ");
+    factors(0);
+    factors(1);
+    factors(2);
+    factors(3);
+    factors(4);
+    factors(5);
+    factors(6);
+    factors(7);
+    factors(8);
+    factors(9);
 }
 
 // The weights of the paper's example: profile 0 from a Monday, six means of 10.00 degrees.
@@ -155,21 +185,81 @@ fn example() {
     let means = [1000i16; 6];
     let mut out = [0u32; 3];
     weights::weights(0, 0, &means, &mut out);
-    word(b"weights of the example: ");
-    number(from_u32(out[0]));
-    word(b" ");
-    number(from_u32(out[1]));
-    word(b" ");
-    number(from_u32(out[2]));
-    word(b"\n");
+    labelled(b"weights of the example: ", from_u32(out[0]));
+    labelled(b" ", from_u32(out[1]));
+    labelled(b" ", from_u32(out[2]));
+    end_line();
+}
+
+fn answered(answer: CustomerAnswer) {
+    match answer {
+        CustomerAnswer::Given(n) => number(n),
+        CustomerAnswer::Unfit => refused(3),
+        CustomerAnswer::Unsound => refused(5),
+        CustomerAnswer::TooMuch => refused(9),
+        CustomerAnswer::TooGreat => refused(12),
+    }
+    end_line();
+}
+
+// The customer value over sixty weights that add up to z.
+fn customer_value(energy: u64, z: u32) {
+    let each = z / 60;
+    let mut weights = [each; 60];
+    weights[0] = each + z % 60;
+    labelled(b"customer value of ", energy);
+    labelled(b" Wh over ", from_u32(z));
+    word(b": ");
+    answered(customer::customer_value(energy, &weights));
+}
+
+fn daily_amount(value: u64, weight: u32) {
+    labelled(b"daily amount of ", value);
+    labelled(b" with weight ", from_u32(weight));
+    word(b": ");
+    answered(customer::daily_amount(value, weight));
+}
+
+// The examples of document 000, tables 18 to 23 and lines 1038 to 1040, and the largest customer value.
+fn customers() {
+    customer_value(23_185_000, 329_581_001);
+    customer_value(958_000, 379_356_309);
+    customer_value(223_185_000, 397_727_400);
+    customer_value(2_000_000_000, 20_000);
+    customer_value(2_000_000_000, 19_999);
+    daily_amount(500_000, 2_016_134);
+    daily_amount(4_000_000, 2_360_152);
+}
+
+// Two readings with a cut between them.
+fn record(weights: &[u32], marks: &mut [u8], counts: &mut [u64]) {
+    account::open(weights, marks, counts);
+    account::reading(weights, marks, counts, 0, 0);
+    account::cut(weights, marks, &counts[..], 1);
+    account::reading(weights, marks, counts, 2, 25_424_000);
+}
+
+// The example of document 002.
+fn split() {
+    let weights = [9_870u32, 21_478];
+    let mut marks = [0u8; 3];
+    let mut counts = [0u64; 3];
+    record(&weights, &mut marks, &mut counts);
+    let mut from = [0u16; 2];
+    let mut to = [0u16; 2];
+    let mut wh = [0u64; 2];
+    statement::statement(&weights, &marks, &counts, &mut from, &mut to, &mut wh);
+    labelled(b"split of 25424000 Wh: ", wh[0]);
+    labelled(b" ", wh[1]);
+    end_line();
 }
 
 fn main() {
     temperature();
     values();
     near();
-    value(b"GBA33 at 7.00", 7, 700);
-    crossings();
     weeks();
     example();
+    customers();
+    split();
 }

@@ -35,7 +35,7 @@ returns c = declined NoProfile 0 (simp (le-leb _ _ (c .if1 .taken))) refl refl r
 -- row 2
 returns-2 : tie.Need-returns-2
 returns-2 c =
-    declined NoWeekday 1 (simp (lt-leb _ _ (c .before .if1 .left), lt-ltb _ _ (c .if2 .taken))) refl refl refl
+    declined NoWeekday 1 (simp (lt-leb _ _ (c .before .if1 .left), lt-ltb 6 (c .before .before .args .weekday) (omega arith))) refl refl refl
 
 in-range-requires : tie.Need-in-range-requires
 in-range-requires c κs = search needs

@@ -1,10 +1,12 @@
 -- `profile::Profile::by_number` meets its contract: above 9 there is no profile in the table, and the limits are the numerals of the definitions.
 -- Assumes nothing.
 use mathlib.Core.Path.{sym}
+use Prim.Native.Nat.{_≤_}
 use native.Mathlib.Omega.{arith}
 use borrow.Author.Needs.{needs}
 use borrow.Author.Tests.{le-leb, lt-leb}
 use lib.ListN.{List·getD-eq-default}
+use Rattle.profile.specs.Limits.{profileCount}
 use Rattle.profile.specs.Table.{table, noProfile, profileOf}
 use Rattle.profile.proofs.Tested.{profile-tested}
 use Rattle.profile.proofs.Profile.by_number.Statement.{statement}
@@ -13,10 +15,11 @@ use Rattle.profile.proofs.Profile.by_number.Tie as tie
 returns : tie.Need-returns
 unfolding profileOf
 returns c =
-    let test = le-leb _ _ (c .if1 .taken) in (
+    let above : profileCount ≤ c .before .args .n = omega arith in
+    let test = le-leb profileCount (c .before .args .n) above in (
       record {
         number = simp test;
-        profile = sym (List·getD-eq-default table noProfile (c .if1 .taken));
+        profile = sym (List·getD-eq-default table noProfile above);
         week = simp test (λ e. absurd (omega arith));
       },
       (search needs, search needs),

@@ -1,8 +1,8 @@
 -- `profile::curve::low_share` meets its contract: the side is that of the definition, and a power is at most one.
 -- Assumes nothing.
 use mathlib.Core.Path.{_≡_, _∙_, sym}
-use Prim.Native.Nat.{_^_}
-use native.Mathlib.Nat.{le-refl}
+use Prim.Native.Nat.{_^_, _≤_}
+use native.Mathlib.Omega.{arith}
 use borrow.Author.Needs.{needs}
 use mir.Facts.{toZ-ofZ}
 use Rattle.power.specs.Power.{one}
@@ -29,14 +29,23 @@ low c =
     let q = c .before .before in
     c .lower .ensures ∙ low-is (q .before .args .p) (q .before .args .t) (q .before .pre) (met q .n-is) (met q .m-is)
 
+high-small : (c : tie.After-upper) → c .upper .result ≤ 2 ^ 30
+unfolding one
+high-small c =
+    let q = c .before .before .before in
+    rw (high c) (high-le-one (q .args .p) (q .args .t) (q .pre))
+
+low-small : (c : tie.After-lower) → c .lower .result ≤ 2 ^ 30
+unfolding one
+low-small c =
+    let q = c .before .before .before in
+    rw (low c) (low-le-one (q .args .p) (q .args .t) (q .pre))
+
 upper-requires : tie.Need-upper-requires
 upper-requires c κs = search needs
 
 share-down-requires : tie.Need-share-down-requires
-unfolding one
-share-down-requires c κs =
-    let q = c .before .before .before in
-    (le-refl (2 ^ 30), rw (high c) (high-le-one (q .args .p) (q .args .t) (q .pre)))
+share-down-requires c κs = omega (arith, high-small c)
 
 returns : tie.Need-returns
 unfolding one
@@ -51,11 +60,7 @@ lower-requires : tie.Need-lower-requires
 lower-requires c κs = search needs
 
 share-down-requires-2 : tie.Need-share-down-requires-2
-unfolding one
-share-down-requires-2 c κs =
-    let q = c .before .before .before in
-    let small = low-le-one (q .args .p) (q .args .t) (q .pre) in
-    rw (low c) (small, small)
+share-down-requires-2 c κs = omega (arith, low-small c)
 
 returns-2 : tie.Need-returns-2
 unfolding one

@@ -1,7 +1,8 @@
 -- `profile::curve::values_at` meets its contract: its two sums are the values, which fit 64 bits over the whole table.
 -- Assumes nothing.
 use mathlib.Core.Path.{_≡_, _∙_, ap}
-use Prim.Native.Nat.{_^_, _<_}
+use Prim.Native.Nat.{_^_, _<_, _≤_}
+use native.Mathlib.Omega.{arith}
 use borrow.Author.Needs.{needs}
 use lib.IntN.{_+ℤ_}
 use mir.Facts.{toZ-ofZ}
@@ -34,12 +35,17 @@ shares c = simp (toZ-ofZ (c .before .before .fits .t)) at (c .both-shares .ensur
 rest : (c : tie.After-linear-at) → c .linear-at .result ≡ linear (c .before .before .row .result) (c .before .before .before .args .t)
 rest c = simp (toZ-ofZ (c .before .before .before .fits .t)) at (c .linear-at .ensures)
 
-curve-down-requires : tie.Need-curve-down-requires
+-- a share is at most one
+low-small : (c : tie.After-both-shares) → c .both-shares .result .low ≤ 2 ^ 30
 unfolding one
-curve-down-requires c κs = (
-  small (c .before .before),
-  rw (shares (c .before) .low-is) (low-share-le (c .before .before .row .result) (c .before .before .before .args .t)),
-)
+low-small c = rw (shares c .low-is) (low-share-le (c .before .row .result) (c .before .before .args .t))
+
+high-small : (c : tie.After-both-shares) → c .both-shares .result .high ≤ 2 ^ 30
+unfolding one
+high-small c = rw (shares c .high-is) (high-share-le (c .before .row .result) (c .before .before .args .t))
+
+curve-down-requires : tie.Need-curve-down-requires
+curve-down-requires c κs = omega (arith, small (c .before .before), low-small (c .before))
 
 low : (c : tie.After-curve-down) → c .curve-down .result +ℤ c .before .linear-at .result ≡ valueLow (profileOf (c .before .before .before .before .args .number)) (c .before .before .before .before .args .t)
 low c =
@@ -54,11 +60,7 @@ add-t7 c =
     (low-fits (q .args .number) (q .args .t) (q .pre .0) (q .pre .1))
 
 curve-up-requires : tie.Need-curve-up-requires
-unfolding one
-curve-up-requires c κs = (
-  small (c .before .before .before),
-  rw (shares (c .before .before) .high-is) (high-share-le (c .before .before .before .row .result) (c .before .before .before .before .args .t)),
-)
+curve-up-requires c κs = omega (arith, small (c .before .before .before), high-small (c .before .before))
 
 high : (c : tie.After-curve-up) → c .curve-up .result +ℤ c .before .before .linear-at .result ≡ valueHigh (profileOf (c .before .before .before .before .before .args .number)) (c .before .before .before .before .before .args .t)
 high c =

@@ -89,7 +89,7 @@ product c =
 weight : (c : tie.After-factor) → product c / 10_000_000 ≡ weightOf (c .before .before .before .before .before .args .number) (c .before .before .before .before .before .args .weekday) (c .before .before .before .before .before .args .t)
 weight c =
     let q = c .before .before .before .before .before in
-    weight-quotient (q .args .number) (q .args .weekday) (q .args .t) (q .pre .0) (q .pre .2)
+    weight-quotient (q .args .number) (q .args .t) (q .pre .0) (q .pre .2) (q .args .weekday)
 
 small : (c : tie.After-factor) → product c / 10_000_000 ≤ 6_999_999
 small c =

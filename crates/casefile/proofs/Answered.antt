@@ -1,0 +1,97 @@
+-- The answers of the reader (If a call declines): each, with the slices that come with it, meets the contract. Assumes nothing.
+use Prim.Native.Nat.{ℕ, zero, suc, _+_}
+use mathlib.Core.Path.{_≡_, refl, sym, _∙_, ap}
+use mathlib.Core.Bool.{true, false, cond}
+use mathlib.Core.List.{List}
+use borrow.Author.Tests.{eq-eqb, ne-eqb}
+use lib.Dec.{eqb}
+use lib.ListN.{length, replicate, length-replicate}
+use Rattle.profile.specs.Limits.{spanMost}
+use Rattle.account.specs.Account.{Account, account}
+use Rattle.casefile.specs.declared.CaseAnswer.the-variants.{Days, Refused}
+use Rattle.casefile.specs.declared.sections.Progress.{Progress}
+use Rattle.casefile.specs.Case.{daysOf, named}
+use Rattle.casefile.specs.Faults.{Fault, none, faultOf}
+use Rattle.casefile.specs.Reader.{number, place, days, faultNumber, faultPlace, unfitSlices, verdict, full, zeros, ReadMet}
+use Rattle.casefile.specs.Sections.{told, Clear, AllClear, FillMet}
+use Rattle.casefile.proofs.Faults.{clean}
+
+-- lengths that do not fit, and those that do
+pub unfit-weights : (a : Account) → (length (a .weights) ≡ spanMost → ⊥) → unfitSlices a ≡ true
+unfit-weights a h = simp (ne-eqb (length (a .weights)) spanMost h)
+
+pub unfit-marks : (a : Account) → length (a .weights) ≡ spanMost → (length (a .marks) ≡ spanMost + 1 → ⊥) → unfitSlices a ≡ true
+unfit-marks a w h = simp (eq-eqb (length (a .weights)) spanMost w, ne-eqb (length (a .marks)) (spanMost + 1) h)
+
+pub unfit-counts : (a : Account) → length (a .weights) ≡ spanMost → length (a .marks) ≡ spanMost + 1 → (length (a .counts) ≡ spanMost + 1 → ⊥) → unfitSlices a ≡ true
+unfit-counts a w m h = simp (eq-eqb (length (a .weights)) spanMost w, eq-eqb (length (a .marks)) (spanMost + 1) m, ne-eqb (length (a .counts)) (spanMost + 1) h)
+
+pub record Long (a : Account) : Type 0 where
+  pub weights : length (a .weights) ≡ spanMost
+  pub marks : length (a .marks) ≡ spanMost + 1
+  pub counts : length (a .counts) ≡ spanMost + 1
+
+fit : (a : Account) → Long a → unfitSlices a ≡ false
+fit a l = simp (eq-eqb (length (a .weights)) spanMost (l .weights), eq-eqb (length (a .marks)) (spanMost + 1) (l .marks), eq-eqb (length (a .counts)) (spanMost + 1) (l .counts))
+
+-- "3 at 0, nothing touched"
+pub unfit-met : (s : List ℕ) (lent : Account) → unfitSlices lent ≡ true → ReadMet s lent (Refused 3 0) lent
+unfit-met s lent u = record { numbers = rw u refl; places = rw u refl; returns = rw u refl; fills = rw u refl }
+
+-- slices that were cleared
+clear-is : {n : ℕ} (lent : List ℕ) {after : List ℕ} → after ≡ replicate (length lent) 0 → length lent ≡ n → Clear n after
+clear-is lent {after} e l =
+    let same : length after ≡ length lent = ap length e ∙ length-replicate (length lent) 0 in
+    record { long = same ∙ l; zeros = rw same e }
+
+pub all-clear : {lent after : Account} → after ≡ zeros lent → Long lent → AllClear after
+all-clear {lent} e l =
+    record {
+      weights = clear-is (lent .weights) (ap (λ (a : Account). a .weights) e) (l .weights);
+      marks = clear-is (lent .marks) (ap (λ (a : Account). a .marks) e) (l .marks);
+      counts = clear-is (lent .counts) (ap (λ (a : Account). a .counts) e) (l .counts);
+    }
+
+-- a fault of the file
+told-number : (n at : ℕ) → faultNumber (told n at) ≡ n
+told-number zero at = refl
+told-number (suc n) at = refl
+
+told-place : (n at : ℕ) → (n ≡ 0 → ⊥) → faultPlace (told n at) ≡ at
+told-place zero at h = absurd (h refl)
+told-place (suc n) at h = refl
+
+same-zeros : {lent after : Account} → Long lent → Long after → zeros after ≡ zeros lent
+same-zeros l k = λ i.
+    account
+    (replicate ((k .weights ∙ sym (l .weights)) i) 0)
+    (replicate ((k .marks ∙ sym (l .marks)) i) 0)
+    (replicate ((k .counts ∙ sym (l .counts)) i) 0)
+
+module _ {s : List ℕ} {lent filled : Account} {p : Progress} (l : Long lent) (f : FillMet s p filled) where
+  found : faultOf s ≡ told (p .number) (p .place)
+  found = sym (f .reached .tells)
+
+  judged : verdict s lent ≡ told (p .number) (p .place)
+  judged = rw (fit lent l) found
+
+  pub refused-met : (p .number ≡ 0 → ⊥) → {after : Account} → after ≡ zeros filled → Long filled → ReadMet s lent (Refused (p .number) (p .place)) after
+  refused-met h {after} e k =
+      let n = ne-eqb (p .number) 0 h in
+      record {
+        numbers = sym (ap faultNumber judged ∙ told-number (p .number) (p .place));
+        places = sym (ap faultPlace judged ∙ told-place (p .number) (p .place) h);
+        returns = sym (ap (λ (x : Fault). cond (eqb (faultNumber x) 0) (daysOf s) 0) judged ∙ simp (told-number (p .number) (p .place), n));
+        fills = e ∙ same-zeros l k ∙ sym (rw (fit lent l) (ap (λ (x : Fault). cond (eqb (faultNumber x) 0) (full (named s)) (zeros lent)) found ∙ simp (told-number (p .number) (p .place), n)));
+      }
+
+  pub days-met : p .number ≡ 0 → ReadMet s lent (Days (p .days)) filled
+  days-met z =
+      let e = clean (f .reached) z in
+      let v : verdict s lent ≡ none = rw (fit lent l) e in
+      record {
+        numbers = sym (ap faultNumber v);
+        places = sym (ap faultPlace v);
+        returns = f .reached .days-are z ∙ sym (ap (λ (x : Fault). cond (eqb (faultNumber x) 0) (daysOf s) 0) v);
+        fills = f .fills z ∙ sym (rw (fit lent l) (ap (λ (x : Fault). cond (eqb (faultNumber x) 0) (full (named s)) (zeros lent)) e));
+      }

@@ -1,0 +1,11 @@
+pub mod Numbers
+pub mod Faults
+pub mod Means
+pub mod Weighing
+pub mod Items
+pub mod Filed
+pub mod Chained
+pub mod Marked
+pub mod Answered
+pub mod Sound
+pub mod Held

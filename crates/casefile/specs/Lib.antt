@@ -1,0 +1,5 @@
+pub mod Bytes
+pub mod Case
+pub mod Faults
+pub mod Reader
+pub mod Sections

@@ -1,0 +1,159 @@
+-- The sections of a case file one by one (Case file, If a call declines): what the reader's private functions promise on its way
+-- "front to back".
+use Prim.Native.Nat.{ℕ, zero, suc, _+_, _-_, _≤_, _<_}
+use mathlib.Core.Path.{_≡_}
+use mathlib.Core.Bool.{false}
+use mathlib.Core.List.{List}
+use lib.Dec.{ltb}
+use lib.IntN.{ℤ}
+use lib.ListN.{length, replicate, take}
+use Rattle.profile.specs.Limits.{spanMost}
+use Rattle.account.specs.Account.{Account, badSpan, energyMost}
+use Rattle.weights.specs.Means.{someOut}
+use Rattle.casefile.specs.declared.sections.Progress.{Progress}
+use Rattle.casefile.specs.declared.readings.Reading.{Reading}
+use Rattle.casefile.specs.Bytes.{byte, number16, number64}
+use Rattle.casefile.specs.Case.{meanCount, meansOf, daysOf, readingsPlace, readingCount, readingPlace, cutsPlace, cutCount, cutPlace, endOf, emptyCase, withReadings, named}
+use Rattle.casefile.specs.Faults.{Fault, none, refused, _before_, fault, firstFault, early, meanFault, readingFault, cutFault, faultOf}
+use Rattle.casefile.specs.Reader.{full}
+
+-- the fault that a number and its place tell; 0 is none
+abbrev pub told : ℕ → ℕ → Fault
+told zero place = none
+told (suc number) place = refused (suc number) place
+
+-- the first fault of each section: profile, weekday and the count of means at an offset, which is 0 ..
+abbrev pub headFault : List ℕ → ℕ → Fault
+headFault s at =
+    early s (at + 1) before
+    fault (ltb 9 (byte s at)) 1 at before
+    early s (at + 2) before
+    fault (ltb 6 (byte s (at + 1))) 2 (at + 1) before
+    early s (at + 4) before
+    fault (badSpan (number16 s (at + 2) - 3)) 3 (at + 2)
+
+-- .. and the means, the readings, the cuts
+abbrev pub meansFault : List ℕ → Fault
+meansFault s = firstFault (meanFault s) (meanCount s)
+
+abbrev pub readingsFault : List ℕ → Fault
+readingsFault s = early s (readingsPlace s + 2) before firstFault (readingFault s) (readingCount s)
+
+abbrev pub cutsFault : List ℕ → Fault
+cutsFault s =
+    early s (cutsPlace s + 2) before
+    firstFault (cutFault s) (cutCount s) before
+    fault (ltb (endOf s) (length s)) 13 (endOf s)
+
+-- the first fault up to the end of the means, and of the readings
+abbrev pub spanFault : List ℕ → Fault
+spanFault s = headFault s 0 before meansFault s
+
+abbrev pub filedFault : List ℕ → Fault
+filedFault s = spanFault s before readingsFault s
+
+-- the reader met the fault f, or, where that is none, has read n and stands at the offset `next`
+pub record Reached (f : Fault) (n next : ℕ) (p : Progress) : Type 0 where
+  pub tells : told (p .number) (p .place) ≡ f
+  pub days-are : p .number ≡ 0 → p .days ≡ n
+  pub stands : p .number ≡ 0 → p .next ≡ next
+
+-- the means, or their fault
+pub record MeansMet (s : List ℕ) (p : Progress) (means : List ℤ) : Type 0 where
+  pub reached : Reached (meansFault s) (daysOf s) (readingsPlace s) p
+  pub read : p .number ≡ 0 → take (meanCount s) means ≡ meansOf s
+
+-- a lent slice of this length, all zero
+pub record Clear (n : ℕ) (lent : List ℕ) : Type 0 where
+  pub long : length lent ≡ n
+  pub zeros : lent ≡ replicate (length lent) 0
+
+-- profile, weekday and the first means give weights, and the lent slice is zero
+pub record Weighable (profile weekday : ℕ) (means : List ℤ) (days : ℕ) (lent : List ℕ) : Type 0 where
+  pub profiled : profile ≤ 9
+  pub dated : weekday ≤ 6
+  pub least : 1 ≤ days
+  pub most : days ≤ spanMost
+  pub enough : days + 3 ≤ length means
+  pub measured : someOut (take (days + 3) means) ≡ false
+  pub clear : Clear spanMost lent
+
+-- profile, weekday and means with the weights that they give, or their fault
+pub record SpanMet (s : List ℕ) (p : Progress) (weights : List ℕ) : Type 0 where
+  pub reached : Reached (spanFault s) (daysOf s) (readingsPlace s) p
+  pub weighed : p .number ≡ 0 → weights ≡ full (emptyCase s) .weights
+
+-- a reading at an offset, where boundaries below `low` fail to rise, the count before it is `last` and the first one `first`
+abbrev pub itemFault : List ℕ → ℕ → ℕ → ℕ → ℕ → ℕ → Fault
+itemFault s at low n first last =
+    early s (at + 10) before
+    fault (ltb (number16 s at) low) 13 at before
+    fault (ltb n (number16 s at)) 6 at before
+    fault (ltb (number64 s (at + 2)) last) 8 (at + 2) before
+    fault (ltb energyMost (number64 s (at + 2) - first)) 9 (at + 2)
+
+-- the reading at an offset, or its fault
+pub record ItemMet (s : List ℕ) (at low n first last : ℕ) (r : Reading) : Type 0 where
+  pub tells : told (r .number) (r .place) ≡ itemFault s at low n first last
+  pub boundary-is : r .number ≡ 0 → r .boundary ≡ number16 s at
+  pub count-is : r .number ≡ 0 → r .count ≡ number64 s (at + 2)
+
+-- the readings from an offset on, asked for slices that hold the empty account
+pub record ReadingsAsked (s : List ℕ) (at count n : ℕ) (marks counts : List ℕ) : Type 0 where
+  pub starts : at ≡ readingPlace s 0
+  pub counted : count ≡ readingCount s
+  pub days-are : n ≡ daysOf s
+  pub few : count < 65536
+  pub near : at ≤ length s
+  pub span : n ≤ spanMost
+  pub marks-are : marks ≡ full (emptyCase s) .marks
+  pub counts-are : counts ≡ full (emptyCase s) .counts
+  pub marks-long : length marks ≡ spanMost + 1
+  pub counts-long : length counts ≡ spanMost + 1
+
+-- the slices hold the readings, or the progress tells a fault of the file
+pub record Filed (s : List ℕ) (f : Fault) (p : Progress) (marks counts : List ℕ) : Type 0 where
+  pub reached : Reached f (daysOf s) (cutsPlace s) p
+  pub marks-are : p .number ≡ 0 → marks ≡ full (withReadings s (readingCount s)) .marks
+  pub counts-are : p .number ≡ 0 → counts ≡ full (withReadings s (readingCount s)) .counts
+
+-- the readings, after a span that is read or has a fault
+pub record ReadingsFrom (s : List ℕ) (at : ℕ) (so-far : Progress) (marks counts : List ℕ) : Type 0 where
+  pub reached : Reached (spanFault s) (daysOf s) (readingsPlace s) so-far
+  pub follows : at ≡ so-far .next
+  pub marks-clear : Clear (spanMost + 1) marks
+  pub counts-clear : Clear (spanMost + 1) counts
+
+-- the cuts from an offset on, asked for marks that hold the readings
+pub record CutsAsked (s : List ℕ) (at count n : ℕ) (marks : List ℕ) : Type 0 where
+  pub starts : at ≡ cutPlace s 0
+  pub counted : count ≡ cutCount s
+  pub days-are : n ≡ daysOf s
+  pub few : count < 65536
+  pub near : at ≤ length s
+  pub span : n ≤ spanMost
+  pub marks-are : marks ≡ full (withReadings s (readingCount s)) .marks
+  pub marks-long : length marks ≡ spanMost + 1
+
+-- the marks hold the readings and the cuts, or the progress tells a fault of the file
+pub record Closed (s : List ℕ) (f : Fault) (p : Progress) (marks : List ℕ) : Type 0 where
+  pub reached : Reached f (daysOf s) (endOf s) p
+  pub marks-are : p .number ≡ 0 → marks ≡ full (named s) .marks
+
+-- the cuts, after readings that are read or have a fault
+pub record CutsFrom (s : List ℕ) (at : ℕ) (so-far : Progress) (marks : List ℕ) : Type 0 where
+  pub reached : Reached (filedFault s) (daysOf s) (cutsPlace s) so-far
+  pub follows : at ≡ so-far .next
+  pub marks-are : so-far .number ≡ 0 → marks ≡ full (withReadings s (readingCount s)) .marks
+  pub marks-long : length marks ≡ spanMost + 1
+
+-- slices of full length, all zero
+pub record AllClear (lent : Account) : Type 0 where
+  pub weights : Clear spanMost (lent .weights)
+  pub marks : Clear (spanMost + 1) (lent .marks)
+  pub counts : Clear (spanMost + 1) (lent .counts)
+
+-- the slices hold the account that the file names, or the progress tells the file's fault
+pub record FillMet (s : List ℕ) (p : Progress) (after : Account) : Type 0 where
+  pub reached : Reached (faultOf s) (daysOf s) (endOf s) p
+  pub fills : p .number ≡ 0 → after ≡ full (named s)

@@ -1,0 +1,44 @@
+// Slices set to zero over their whole length (If a call declines: "outputs zero").
+ghost use mathlib.Core.Path.{_≡_};
+ghost use lib.ListN.{length, replicate};
+ghost use Rattle.account.specs.Account.{account};
+ghost use Rattle.casefile.specs.Reader.{zeros};
+
+// The three slices of an account.
+pub(crate) fn clear(weights: &mut [u32], marks: &mut [u8], counts: &mut [u64])
+    ensures { λ r. ⌜ account (now (weights .exit)) (now (marks .exit)) (now (counts .exit)) ≡ zeros (account (now (weights .entry)) (now (marks .entry)) (now (counts .entry))) ⌝ }
+{
+    clear_weights(weights);
+    clear_marks(marks);
+    clear_counts(counts);
+}
+
+fn clear_weights(weights: &mut [u32])
+    ensures { λ r. ⌜ now (weights .exit) ≡ replicate (length (now (weights .entry))) 0 ⌝ }
+{
+    let mut i = 0;
+    while i < weights.len() {
+        weights[i] = 0;
+        i += 1;
+    }
+}
+
+fn clear_marks(marks: &mut [u8])
+    ensures { λ r. ⌜ now (marks .exit) ≡ replicate (length (now (marks .entry))) 0 ⌝ }
+{
+    let mut i = 0;
+    while i < marks.len() {
+        marks[i] = 0;
+        i += 1;
+    }
+}
+
+fn clear_counts(counts: &mut [u64])
+    ensures { λ r. ⌜ now (counts .exit) ≡ replicate (length (now (counts .entry))) 0 ⌝ }
+{
+    let mut i = 0;
+    while i < counts.len() {
+        counts[i] = 0;
+        i += 1;
+    }
+}

@@ -1,0 +1,53 @@
+// The reader (Case file): it holds the file and its own position. Thin calls take it apart for the sections' functions.
+ghost use mathlib.Core.Path.{_≡_};
+ghost use Rattle.account.specs.Account.{account};
+ghost use Rattle.profile.specs.Limits.{spanMost};
+ghost use Rattle.casefile.specs.Faults.{faultOf};
+ghost use Rattle.casefile.specs.Sections.{Clear, AllClear, SpanMet, ReadingsFrom, Filed, CutsFrom, Closed, FillMet, filedFault};
+use crate::cuts::cuts_at;
+use crate::readings::readings_at;
+use crate::sections::Progress;
+use crate::span::span_at;
+
+pub struct Reader<'a> {
+    pub file: &'a [u8],
+    pub at: usize,
+}
+
+// A file from its start.
+fn new<'a>(file: &'a [u8]) -> Reader<'a>
+    ensures { λ r. ⌜ (r .file ≡ file .entry) × (r .at ≡ 0) ⌝ }
+{
+    Reader { file, at: 0 }
+}
+
+// The same file at another position.
+fn moved<'a>(r: Reader<'a>, at: usize) -> Reader<'a>
+    ensures { λ q. ⌜ (q .file ≡ r .entry .file) × (q .at ≡ at) ⌝ }
+{
+    Reader { file: r.file, at }
+}
+
+// Profile, weekday and means.
+fn span<'a>(r: Reader<'a>, weights: &mut [u32]) -> Progress
+    requires { ⌜ (r .at ≡ 0) × Clear spanMost (now weights) ⌝ }
+    ensures { λ p. ⌜ SpanMet (now (r .entry .file)) p (now (weights .exit)) ⌝ }
+{
+    span_at(r.file, r.at, weights)
+}
+
+// The readings.
+fn readings<'a>(r: Reader<'a>, before: Progress, marks: &mut [u8], counts: &mut [u64]) -> Progress
+    requires { ⌜ ReadingsFrom (now (r .file)) (r .at) before (now marks) (now counts) ⌝ }
+    ensures { λ p. ⌜ Filed (now (r .entry .file)) (filedFault (now (r .entry .file))) p (now (marks .exit)) (now (counts .exit)) ⌝ }
+{
+    readings_at(r.file, r.at, before, marks, counts)
+}
+
+// The cuts and the end of the file.
+fn cuts<'a>(r: Reader<'a>, before: Progress, marks: &mut [u8]) -> Progress
+    requires { ⌜ CutsFrom (now (r .file)) (r .at) before (now marks) ⌝ }
+    ensures { λ p. ⌜ Closed (now (r .entry .file)) (faultOf (now (r .entry .file))) p (now (marks .exit)) ⌝ }
+{
+    cuts_at(r.file, r.at, before, marks)
+}

@@ -1,0 +1,32 @@
+// How far the reader has come after a section: the days and the next offset, or the fault it met.
+ghost use mathlib.Core.Path.{_≡_};
+
+pub(crate) struct Progress {
+    // The table's number; 0 where no fault was met.
+    pub(crate) number: u8,
+    pub(crate) place: usize,
+    pub(crate) days: usize,
+    pub(crate) next: usize,
+}
+
+pub(crate) fn refused(number: u8, place: usize) -> Progress
+    ensures { λ r. ⌜ r ≡ record { number = number; place = place; days = 0; next = 0 } ⌝ }
+{
+    Progress {
+        number,
+        place,
+        days: 0,
+        next: 0,
+    }
+}
+
+pub(crate) fn passed(days: usize, next: usize) -> Progress
+    ensures { λ r. ⌜ r ≡ record { number = 0; place = 0; days = days; next = next } ⌝ }
+{
+    Progress {
+        number: 0,
+        place: 0,
+        days,
+        next,
+    }
+}

@@ -1,0 +1,93 @@
+// The first sections of a case file: profile, weekday and means, and the weights that they give (Case file).
+ghost use mathlib.Core.Path.{_≡_};
+ghost use Prim.Native.Nat.{_+_, _-_, _≤_};
+ghost use lib.ListN.{length, take};
+ghost use Rattle.profile.specs.Limits.{spanMost};
+ghost use Rattle.weights.specs.Weights.{weightsOf};
+ghost use Rattle.casefile.specs.Reader.{filled};
+ghost use Rattle.casefile.specs.Bytes.{number16};
+ghost use Rattle.casefile.specs.Case.{meanCount};
+ghost use Rattle.casefile.specs.Sections.{Reached, MeansMet, SpanMet, Clear, Weighable, headFault};
+use crate::bytes::number16;
+use crate::bytes::signed;
+use crate::sections::Progress;
+use crate::sections::passed;
+use crate::sections::refused;
+use profile::Profile;
+
+// Profile, weekday and the count of means.
+fn head_at(file: &[u8], at: usize) -> Progress
+    requires { ⌜ at ≤ length (now file) ⌝ }
+    ensures { λ r. ⌜ Reached (headFault (now (file .entry)) at) (number16 (now (file .entry)) (at + 2) - 3) (at + 4) r ⌝ }
+{
+    if file.len() < at + 1 {
+        return refused(13, file.len());
+    }
+    if 9 < file[at] {
+        return refused(1, at);
+    }
+    if file.len() < at + 2 {
+        return refused(13, file.len());
+    }
+    if 6 < file[at + 1] {
+        return refused(2, at + 1);
+    }
+    if file.len() < at + 4 {
+        return refused(13, file.len());
+    }
+    let count = number16(file, at + 2);
+    if count < 4 {
+        return refused(3, at + 2);
+    }
+    if Profile::SPAN + 3 < count {
+        return refused(3, at + 2);
+    }
+    passed(count - 3, at + 4)
+}
+
+// The means, up to the first fault, into a buffer.
+fn means_at(file: &[u8], at: usize, count: usize, means: &mut [i16]) -> Progress
+    requires { ⌜ (at ≡ 4) × (count ≡ meanCount (now file)) × (4 ≤ count) × (count ≤ length (now means)) × (length (now means) ≡ 1099) ⌝ }
+    ensures { λ r. ⌜ MeansMet (now (file .entry)) r (now (means .exit)) ⌝ }
+{
+    let mut i = 0;
+    while i < count {
+        let place = at + 2 * i;
+        if file.len() < place + 2 {
+            return refused(13, file.len());
+        }
+        let mean = signed(number16(file, place));
+        if !profile::in_range(mean) {
+            return refused(4, place);
+        }
+        means[i] = mean;
+        i += 1;
+    }
+    passed(count - 3, at + 2 * count)
+}
+
+// The weights of a span, from the first means of the buffer into the first of the lent weights.
+fn weigh(profile: u8, weekday: u8, means: &[i16], days: usize, weights: &mut [u32])
+    requires { ⌜ Weighable profile weekday (now means) days (now weights) ⌝ }
+    ensures { λ r. ⌜ now (weights .exit) ≡ filled spanMost (weightsOf profile weekday (take (days + 3) (now (means .entry)))) ⌝ }
+{
+    weights::weights(profile, weekday, &means[..days + 3], &mut weights[..days]);
+}
+
+// Profile, weekday and means: the span and its weights.
+pub(crate) fn span_at(file: &[u8], at: usize, weights: &mut [u32]) -> Progress
+    requires { ⌜ (at ≡ 0) × Clear spanMost (now weights) ⌝ }
+    ensures { λ r. ⌜ SpanMet (now (file .entry)) r (now (weights .exit)) ⌝ }
+{
+    let head = head_at(file, at);
+    if head.number != 0 {
+        return head;
+    }
+    let mut means = [0i16; Profile::SPAN + 3];
+    let span = means_at(file, head.next, head.days + 3, &mut means);
+    if span.number != 0 {
+        return span;
+    }
+    weigh(file[at], file[at + 1], &means, span.days, weights);
+    span
+}

@@ -1,0 +1,2 @@
+-- Shared proofs of vectors: the starred cases.
+pub mod Starred

@@ -1,0 +1,2 @@
+-- What vectors states: `Starred cases`.
+pub mod Starred
