@@ -9,3 +9,4 @@ pub mod Marked
 pub mod Answered
 pub mod Sound
 pub mod Held
+pub mod Again

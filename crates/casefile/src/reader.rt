@@ -51,3 +51,21 @@ fn cuts<'a>(r: Reader<'a>, before: Progress, marks: &mut [u8]) -> Progress
 {
     cuts_at(r.file, r.at, before, marks)
 }
+
+// Front to back into cleared slices: plain parameters, so that callers see no reader.
+pub(crate) fn fill(
+    file: &[u8],
+    weights: &mut [u32],
+    marks: &mut [u8],
+    counts: &mut [u64],
+) -> Progress
+    requires { ⌜ AllClear (account (now weights) (now marks) (now counts)) ⌝ }
+    ensures { λ p. ⌜ FillMet (now (file .entry)) p (account (now (weights .exit)) (now (marks .exit)) (now (counts .exit))) ⌝ }
+{
+    let start = new(file);
+    let span = span(start, weights);
+    let after_means = moved(start, span.next);
+    let filed = readings(after_means, span, marks, counts);
+    let after_readings = moved(after_means, filed.next);
+    cuts(after_readings, filed, marks)
+}
