@@ -1,0 +1,2 @@
+-- What the proof of the chooser uses.
+mod Series

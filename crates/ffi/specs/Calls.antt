@@ -1,0 +1,91 @@
+-- The calls for C and Rust, in the paper's order: for each, what it returns and what every slice it was lent holds after it. Each record
+-- is that of the call below, with the number, the place and the values of its answer, and the rules are those of the crates below.
+use Prim.Native.Nat.{ℕ, _+_, _≤_}
+use mathlib.Core.Path.{_≡_}
+use mathlib.Core.Bool.{cond, not}
+use mathlib.Core.List.{List}
+use lib.Dec.{eqb}
+use lib.IntN.{ℤ, pos}
+use lib.ListN.{length}
+use Rattle.profile.specs.Limits.{weightLeast, weightMost}
+use Rattle.profile.specs.Table.{profileOf}
+use Rattle.profile.specs.Value.{valueLow, valueHigh}
+use Rattle.profile.specs.Weight.{weightOf, floorWeight}
+use Rattle.profile.specs.Answers.{accepted, valueRefusal, weightRefusal, Enclosed}
+use Rattle.weights.specs.Means.{row, firstOut, someOut}
+use Rattle.weights.specs.Temperature.{four, temperatureOf}
+use Rattle.weights.specs.Choose.{spans, serves}
+use Rattle.weights.specs.Weights.{outcome, Bounded}
+use Rattle.account.specs.Account.{Account, days, shown}
+use Rattle.account.specs.Calls as account
+use Rattle.statement.specs.Parts.{Outputs, parts, written}
+use Rattle.statement.specs.Call.{statementNumber, left}
+use Rattle.customer.specs.Customer.{customerRows, customerValue, amountRows, dailyAmount}
+use Rattle.ffi.specs.declared.Outcome.{Outcome}
+use Rattle.ffi.specs.declared.Temperature.{Temperature}
+use Rattle.ffi.specs.declared.Values.{Values}
+use Rattle.ffi.specs.declared.Chosen.{Chosen}
+
+-- ---- Temperature of a day
+pub record TemperatureMet (a b c d : ℤ) (r : Temperature) : Type 0 where
+  pub number-is : r .number ≡ row (someOut (four a b c d)) 4 0
+  pub place-is : r .place ≡ row (someOut (four a b c d)) (firstOut (four a b c d)) 0
+  pub value-is : r .value ≡ row (someOut (four a b c d)) (pos 0) (temperatureOf a b c d)
+
+-- of which series the chooser returns a part, 0 being the empty part
+abbrev pub seriesOf : List ℤ → List ℤ → ℕ → ℕ
+seriesOf measured forecast n =
+    row (not (spans n)) 0
+    (row (serves measured (n + 3)) 1
+    (row (serves forecast (n + 3)) 2
+    0))
+
+pub record ChooseMet (measured forecast : List ℤ) (n : ℕ) (r : Chosen) : Type 0 where
+  pub series-is : r .series ≡ seriesOf measured forecast n
+  pub means-are : r .means ≡ cond (eqb (seriesOf measured forecast n) 0) 0 (n + 3)
+
+-- ---- Profile value
+pub record ValueMet (k : ℕ) (t : ℤ) (r : Values) : Type 0 where
+  pub number : r .number ≡ valueRefusal k t
+  pub place : r .place ≡ 0
+  pub low : r .low ≡ accepted (valueRefusal k t) (valueLow (profileOf k) t) (pos 0)
+  pub high : r .high ≡ accepted (valueRefusal k t) (valueHigh (profileOf k) t) (pos 0)
+  pub encloses : valueRefusal k t ≡ 0 → Enclosed k t
+
+pub record WeightMet (k weekday : ℕ) (t : ℤ) (r : Outcome) : Type 0 where
+  pub number : r .number ≡ weightRefusal k weekday t
+  pub place : r .place ≡ 0
+  pub weight : r .value ≡ accepted (weightRefusal k weekday t) (weightOf k weekday t) 0
+  pub floored : weightRefusal k weekday t ≡ 0 → floorWeight k weekday t ≡ pos (r .value)
+  pub least : weightRefusal k weekday t ≡ 0 → weightLeast ≤ r .value
+  pub most : weightRefusal k weekday t ≡ 0 → r .value ≤ weightMost
+
+pub record WeightsMet (profile weekday : ℕ) (means : List ℤ) (before : List ℕ) (r : Outcome) (after : List ℕ) : Type 0 where
+  pub number-is : r .number ≡ outcome profile weekday means before .number
+  pub place-is : r .place ≡ outcome profile weekday means before .place
+  pub value-is : r .value ≡ 0
+  pub after-is : after ≡ outcome profile weekday means before .memory
+  pub bounded : r .number ≡ 0 → Bounded after
+
+-- ---- Account and its calls: the number that the table gives, and the account after the call, `done` where the number is 0
+pub record AccountMet (table : Account → ℕ) (done : Account → Account) (before : Account) (r : ℕ) (after : Account) : Type 0 where
+  pub answers : r ≡ table before
+  pub leaves : after ≡ account.left (table before) (done before) before
+
+pub record StatementMet (before : Account) (lent : Outputs) (r : Outcome) (after : Account) (out : Outputs) : Type 0 where
+  pub answers : r .number ≡ statementNumber before lent
+  pub place : r .place ≡ 0
+  pub counts : r .value ≡ cond (eqb (statementNumber before lent) 0) (length (parts (before .weights) (shown before))) 0
+  pub stays : after ≡ before
+  pub writes : out ≡ left (statementNumber before lent) (written (days before) (parts (before .weights) (shown before))) lent
+
+-- ---- Customer value and daily amount
+pub record CustomerMet (energy : ℕ) (w : List ℕ) (r : Outcome) : Type 0 where
+  pub answers : r .number ≡ customerRows energy w
+  pub place : r .place ≡ 0
+  pub values : r .value ≡ cond (eqb (customerRows energy w) 0) (customerValue energy w) 0
+
+pub record AmountMet (v weight : ℕ) (r : Outcome) : Type 0 where
+  pub answers : r .number ≡ amountRows v weight
+  pub place : r .place ≡ 0
+  pub values : r .value ≡ cond (eqb (amountRows v weight) 0) (dailyAmount v weight) 0

@@ -1,0 +1,258 @@
+// The calls for C and Rust, on slices and numbers: each is the call below it, its answer given as the paper's number, place and values.
+// include/arvadush.h declares them.
+mod returned;
+
+use returned::customer_number;
+use returned::customer_value;
+use returned::statement_number;
+use returned::statement_parts;
+use returned::temperature_number;
+use returned::temperature_place;
+use returned::temperature_value;
+use returned::value_high;
+use returned::value_low;
+use returned::value_number;
+use returned::weight_number;
+use returned::weight_value;
+use returned::weights_number;
+use returned::weights_place;
+ghost use Rattle.account.specs.Account.{account};
+ghost use Rattle.account.specs.Calls.{cleared, readingPut, readingTaken, cutPut, cutTaken};
+ghost use Rattle.account.specs.Table.{openNumber, readingNumber, withdrawNumber, cutNumber, uncutNumber};
+ghost use Rattle.statement.specs.Parts.{outputs};
+ghost use Rattle.layout.specs.Text.{LaidOut, statementText, refusalText};
+ghost use Rattle.ffi.specs.Calls.{TemperatureMet, ChooseMet, ValueMet, WeightMet, WeightsMet, AccountMet, StatementMet, CustomerMet, AmountMet};
+
+// The table's number (0 is done), the place or index that goes with it, and the value; 0 where there is none.
+#[repr(C)]
+pub struct Outcome {
+    pub number: u8,
+    pub place: usize,
+    pub value: u64,
+}
+
+// The same with a temperature in hundredths of a degree C.
+#[repr(C)]
+pub struct Temperature {
+    pub number: u8,
+    pub place: usize,
+    pub value: i16,
+}
+
+// The same with a profile value in units of 10^-9, low and high.
+#[repr(C)]
+pub struct Values {
+    pub number: u8,
+    pub place: usize,
+    pub low: i64,
+    pub high: i64,
+}
+
+// Which series the chooser took (1 measured, 2 forecast, 0 neither), and how many means from its start.
+#[repr(C)]
+pub struct Chosen {
+    pub series: u8,
+    pub means: usize,
+}
+
+// The allocation temperature of four daily means, today's first.
+#[no_mangle]
+pub extern "C" fn arvadush_temperature(a: i16, b: i16, c: i16, d: i16) -> Temperature
+    ensures { λ r. ⌜ TemperatureMet a b c d r ⌝ }
+{
+    let answer = weights::temperature(a, b, c, d);
+    Temperature {
+        number: temperature_number(answer),
+        place: temperature_place(answer),
+        value: temperature_value(answer),
+    }
+}
+
+// The means of a span of n days: which series serves, and its first n + 3 means; none where neither does.
+#[no_mangle]
+pub extern "C" fn arvadush_choose<'a>(measured: &'a [i16], forecast: &'a [i16], n: usize) -> Chosen
+    ensures { λ r. ⌜ ChooseMet (now (measured .entry)) (now (forecast .entry)) n r ⌝ }
+{
+    let first = weights::choose(measured, measured, n).len();
+    if first != 0 {
+        return Chosen {
+            series: 1,
+            means: first,
+        };
+    }
+    let second = weights::choose(forecast, forecast, n).len();
+    if second != 0 {
+        return Chosen {
+            series: 2,
+            means: second,
+        };
+    }
+    Chosen {
+        series: 0,
+        means: 0,
+    }
+}
+
+// The profile value at a temperature, low and high.
+#[no_mangle]
+pub extern "C" fn arvadush_value(profile: u8, t: i16) -> Values
+    ensures { λ r. ⌜ ValueMet profile t r ⌝ }
+{
+    let answer = profile::value(profile, t);
+    Values {
+        number: value_number(answer),
+        place: 0,
+        low: value_low(answer),
+        high: value_high(answer),
+    }
+}
+
+// The weight of one day.
+#[no_mangle]
+pub extern "C" fn arvadush_day_weight(profile: u8, weekday: u8, t: i16) -> Outcome
+    ensures { λ r. ⌜ WeightMet profile weekday t r ⌝ }
+{
+    let answer = profile::day_weight(profile, weekday, t);
+    Outcome {
+        number: weight_number(answer),
+        place: 0,
+        value: weight_value(answer),
+    }
+}
+
+// The weight of each day of a span, from its means, oldest first, and the weekday of day 0.
+#[no_mangle]
+pub extern "C" fn arvadush_weights(
+    profile: u8,
+    weekday: u8,
+    means: &[i16],
+    out: &mut [u32],
+) -> Outcome
+    ensures { λ r. ⌜ WeightsMet profile weekday (now (means .entry)) (now (out .entry)) r (now (out .exit)) ⌝ }
+{
+    let answer = weights::weights(profile, weekday, means, out);
+    Outcome {
+        number: weights_number(answer),
+        place: weights_place(answer),
+        value: 0,
+    }
+}
+
+// Clears marks and counts, whatever they held.
+#[no_mangle]
+pub extern "C" fn arvadush_open(weights: &[u32], marks: &mut [u8], counts: &mut [u64]) -> u8
+    ensures { λ r. ⌜ AccountMet openNumber cleared (account (now (weights .entry)) (now (marks .entry)) (now (counts .entry))) r (account (now (weights .exit)) (now (marks .exit)) (now (counts .exit))) ⌝ }
+{
+    account::number_of(account::open(weights, marks, counts))
+}
+
+// Sets a reading at boundary k.
+#[no_mangle]
+pub extern "C" fn arvadush_reading(
+    weights: &[u32],
+    marks: &mut [u8],
+    counts: &mut [u64],
+    k: usize,
+    count: u64,
+) -> u8
+    ensures { λ r. ⌜ AccountMet (λ a. readingNumber a k count) (λ a. readingPut a k count) (account (now (weights .entry)) (now (marks .entry)) (now (counts .entry))) r (account (now (weights .exit)) (now (marks .exit)) (now (counts .exit))) ⌝ }
+{
+    account::number_of(account::reading(weights, marks, counts, k, count))
+}
+
+// Removes the reading at boundary k and zeroes its count.
+#[no_mangle]
+pub extern "C" fn arvadush_withdraw(
+    weights: &[u32],
+    marks: &mut [u8],
+    counts: &mut [u64],
+    k: usize,
+) -> u8
+    ensures { λ r. ⌜ AccountMet (λ a. withdrawNumber a k) (λ a. readingTaken a k) (account (now (weights .entry)) (now (marks .entry)) (now (counts .entry))) r (account (now (weights .exit)) (now (marks .exit)) (now (counts .exit))) ⌝ }
+{
+    account::number_of(account::withdraw(weights, marks, counts, k))
+}
+
+// Sets a cut at boundary k.
+#[no_mangle]
+pub extern "C" fn arvadush_cut(weights: &[u32], marks: &mut [u8], counts: &[u64], k: usize) -> u8
+    ensures { λ r. ⌜ AccountMet (λ a. cutNumber a k) (λ a. cutPut a k) (account (now (weights .entry)) (now (marks .entry)) (now (counts .entry))) r (account (now (weights .exit)) (now (marks .exit)) (now (counts .exit))) ⌝ }
+{
+    account::number_of(account::cut(weights, marks, counts, k))
+}
+
+// Removes the cut at boundary k.
+#[no_mangle]
+pub extern "C" fn arvadush_uncut(weights: &[u32], marks: &mut [u8], counts: &[u64], k: usize) -> u8
+    ensures { λ r. ⌜ AccountMet (λ a. uncutNumber a k) (λ a. cutTaken a k) (account (now (weights .entry)) (now (marks .entry)) (now (counts .entry))) r (account (now (weights .exit)) (now (marks .exit)) (now (counts .exit))) ⌝ }
+{
+    account::number_of(account::uncut(weights, marks, counts, k))
+}
+
+// Writes the statement of an account into from, to and wh; its value is the number of parts.
+#[no_mangle]
+pub extern "C" fn arvadush_statement(
+    weights: &[u32],
+    marks: &[u8],
+    counts: &[u64],
+    from: &mut [u16],
+    to: &mut [u16],
+    wh: &mut [u64],
+) -> Outcome
+    ensures { λ r. ⌜ StatementMet (account (now (weights .entry)) (now (marks .entry)) (now (counts .entry))) (outputs (now (from .entry)) (now (to .entry)) (now (wh .entry))) r (account (now (weights .exit)) (now (marks .exit)) (now (counts .exit))) (outputs (now (from .exit)) (now (to .exit)) (now (wh .exit))) ⌝ }
+{
+    let answer = statement::statement(weights, marks, counts, from, to, wh);
+    Outcome {
+        number: statement_number(answer),
+        place: 0,
+        value: statement_parts(answer),
+    }
+}
+
+// The customer value of this energy in Wh over these weights, in units of 0.1 Wh.
+#[no_mangle]
+pub extern "C" fn arvadush_customer_value(energy: u64, weights: &[u32]) -> Outcome
+    ensures { λ r. ⌜ CustomerMet energy (now (weights .entry)) r ⌝ }
+{
+    let answer = customer::customer_value(energy, weights);
+    Outcome {
+        number: customer_number(answer),
+        place: 0,
+        value: customer_value(answer),
+    }
+}
+
+// The Wh of a day with this weight for a customer with this value.
+#[no_mangle]
+pub extern "C" fn arvadush_daily_amount(value: u64, weight: u32) -> Outcome
+    ensures { λ r. ⌜ AmountMet value weight r ⌝ }
+{
+    let answer = customer::daily_amount(value, weight);
+    Outcome {
+        number: customer_number(answer),
+        place: 0,
+        value: customer_value(answer),
+    }
+}
+
+// The text of a statement of so many parts, at the start of out; the length of the whole text.
+#[no_mangle]
+pub extern "C" fn arvadush_statement_text(
+    from: &[u16],
+    to: &[u16],
+    wh: &[u64],
+    parts: usize,
+    out: &mut [u8],
+) -> usize
+    ensures { λ r. ⌜ LaidOut 0 (statementText (outputs (now (from .entry)) (now (to .entry)) (now (wh .entry))) parts) (now (out .entry)) r (now (out .exit)) ⌝ }
+{
+    layout::statement_text(from, to, wh, parts, out)
+}
+
+// The text of a refusal with its number and place, at the start of out; the length of the whole text.
+#[no_mangle]
+pub extern "C" fn arvadush_refusal_text(number: u8, place: usize, out: &mut [u8]) -> usize
+    ensures { λ r. ⌜ LaidOut 0 (refusalText number place) (now (out .entry)) r (now (out .exit)) ⌝ }
+{
+    layout::refusal_text(number, place, out)
+}

@@ -1,0 +1,4 @@
+mod Split
+mod Digits
+mod Judged
+mod Listing

@@ -1,0 +1,23 @@
+-- `script::weights` meets its contract. Assumes nothing.
+use Rattle.script.proofs.Split.{words-later}
+use borrow.Author.Needs.{needs}
+use Rattle.script.proofs.weights.Statement.{statement}
+use Rattle.script.proofs.weights.Tie as tie
+
+next-requires : tie.Need-next-requires
+next-requires c κs = search needs
+
+weights-from-requires : tie.Need-weights-from-requires
+weights-from-requires c κs = search needs
+
+same-length : tie.Need-same-length
+same-length c = search needs
+
+returns : tie.Need-returns
+returns c =
+    let given = c .before .before .before .before .next in
+    let later = words-later (c .before .before .before .before .before .before .before .args .line .now) (given .result) (given .ensures) in
+    rw later (c .before .before .weights-from .ensures)
+
+pub weights-spec : {M : Type 1} → statement M
+weights-spec = tie.close (tie.spec next-requires weights-from-requires same-length returns)

@@ -1,0 +1,139 @@
+// The language of the console's scripts: lines, words, decimal numbers and calls.
+mod calls;
+mod lists;
+mod words;
+
+use words::after_word;
+use words::next;
+ghost use mathlib.Core.Path.{_≡_};
+ghost use Rattle.script.specs.Words.{lineEnd};
+ghost use Prim.Native.Nat.{_≤_};
+ghost use lib.IntN.{pos, negℤ};
+ghost use Rattle.script.specs.Numbers.{numberOf, meanOf, Listed};
+ghost use Rattle.script.specs.Calls.{commandOf, weightsIn, meansIn};
+
+// A decimal number that a type can hold, or none.
+pub enum Decimal {
+    Number(u64),
+    NoNumber,
+}
+
+// A mean, in hundredths of a degree, or none.
+pub enum Degrees {
+    Mean(i16),
+    NoMean,
+}
+
+// A call that can change what stands on an account.
+pub enum Call {
+    Reading(usize, u64),
+    Withdraw(usize),
+    Cut(usize),
+    Uncut(usize),
+}
+
+// What a line says.
+pub enum Command {
+    Blank,
+    Unknown,
+    Weights,
+    Days(u8, u8),
+    Change(Call),
+    Statement,
+}
+
+// The end of the line that begins at an offset: the next line feed, or the end of the text.
+pub fn line_end(text: &[u8], at: usize) -> usize
+    ensures { λ r. ⌜ r ≡ lineEnd (now (text .entry)) at ⌝ }
+{
+    next(text, at, b'\n')
+}
+
+// A word's value, if it is a decimal number of at most so much.
+pub fn number(word: &[u8], most: u64) -> Decimal
+    ensures { λ r. ⌜ r ≡ numberOf most (now (word .entry)) ⌝ }
+{
+    if word.len() == 0 {
+        return Decimal::NoNumber;
+    }
+    let mut v: u64 = 0;
+    let mut i = 0;
+    while i < word.len() {
+        let x = word[i];
+        if x < b'0' {
+            return Decimal::NoNumber;
+        }
+        if b'9' < x {
+            return Decimal::NoNumber;
+        }
+        let d = (x - b'0') as u64;
+        if most / 10 < v {
+            return Decimal::NoNumber;
+        }
+        if most - v * 10 < d {
+            return Decimal::NoNumber;
+        }
+        v = v * 10 + d;
+        i += 1;
+    }
+    Decimal::Number(v)
+}
+
+// A word's value, if it is a mean.
+pub fn mean(word: &[u8]) -> Degrees
+    ensures { λ r. ⌜ r ≡ meanOf (now (word .entry)) ⌝ }
+{
+    if word.len() == 0 {
+        return Degrees::NoMean;
+    }
+    if word[0] == b'-' {
+        let Decimal::Number(n) = number(&word[1..], 32_768) else {
+            return Degrees::NoMean;
+        };
+        return Degrees::Mean(negative(n));
+    }
+    let Decimal::Number(n) = number(word, 32_767) else {
+        return Degrees::NoMean;
+    };
+    Degrees::Mean(n as i16)
+}
+
+// The negative of a number.
+fn negative(n: u64) -> i16
+    requires { ⌜ n ≤ 32768 ⌝ }
+    ensures { λ r. ⌜ r ≡ negℤ (pos n) ⌝ }
+{
+    if n == 0 {
+        return 0;
+    }
+    -1 - (n - 1) as i16
+}
+
+// What a line says.
+pub fn parse(line: &[u8]) -> Command
+    ensures { λ r. ⌜ r ≡ commandOf (now (line .entry)) ⌝ }
+{
+    if line.len() == 0 {
+        return Command::Blank;
+    }
+    if line[0] == b'#' {
+        return Command::Blank;
+    }
+    let end = next(line, 0, b' ');
+    calls::named(&line[..end], line, end)
+}
+
+// The weights of a `weights` line, as many of them as fit, and how many there are.
+pub fn weights(line: &[u8], out: &mut [u32]) -> usize
+    ensures { λ r. ⌜ Listed (weightsIn (now (line .entry))) (now (out .entry)) r (now (out .exit)) ⌝ }
+{
+    lists::weights_from(line, next(line, 0, b' '), out)
+}
+
+// The means of a `days` line, as many of them as fit, and how many there are.
+pub fn means(line: &[u8], out: &mut [i16]) -> usize
+    ensures { λ r. ⌜ Listed (meansIn (now (line .entry))) (now (out .entry)) r (now (out .exit)) ⌝ }
+{
+    let end = after_word(line, after_word(line, next(line, 0, b' ')));
+    lists::means_from(line, end, out)
+}

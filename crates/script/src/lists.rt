@@ -1,0 +1,83 @@
+// The weights and the means at the end of a line: judged, and stored in a lent slice.
+use crate::Decimal;
+use crate::Degrees;
+use crate::mean;
+use crate::number;
+use crate::words::next;
+ghost use mathlib.Core.Path.{_≡_};
+ghost use lib.ListN.{drop};
+ghost use Rattle.script.specs.Words.{wordsLeft, every};
+ghost use Rattle.script.specs.Numbers.{isNumber, value, isMean, degrees, leading, Listed, most32};
+
+// The largest weight of 32 bits.
+const MOST: u64 = 4_294_967_295;
+
+// Each word from the end of a word on is a weight.
+pub(crate) fn all_weights(line: &[u8], end: usize) -> bool
+    ensures { λ r. ⌜ r ≡ every (isNumber most32) (wordsLeft (drop end (now (line .entry)))) ⌝ }
+{
+    let mut at = end;
+    while at < line.len() {
+        let end = next(line, at + 1, b' ');
+        let Decimal::Number(_) = number(&line[at + 1..end], MOST) else {
+            return false;
+        };
+        at = end;
+    }
+    true
+}
+
+// Each word from the end of a word on is a mean.
+pub(crate) fn all_means(line: &[u8], end: usize) -> bool
+    ensures { λ r. ⌜ r ≡ every isMean (wordsLeft (drop end (now (line .entry)))) ⌝ }
+{
+    let mut at = end;
+    while at < line.len() {
+        let end = next(line, at + 1, b' ');
+        let Degrees::Mean(_) = mean(&line[at + 1..end]) else {
+            return false;
+        };
+        at = end;
+    }
+    true
+}
+
+// The weights from the end of a word on, stored as far as they fit; how many there are.
+pub(crate) fn weights_from(line: &[u8], end: usize, out: &mut [u32]) -> usize
+    ensures { λ r. ⌜ Listed (leading (isNumber most32) value (wordsLeft (drop end (now (line .entry))))) (now (out .entry)) r (now (out .exit)) ⌝ }
+{
+    let mut at = end;
+    let mut i = 0;
+    while at < line.len() {
+        let end = next(line, at + 1, b' ');
+        let Decimal::Number(x) = number(&line[at + 1..end], MOST) else {
+            return i;
+        };
+        if i < out.len() {
+            out[i] = x as u32;
+        }
+        i += 1;
+        at = end;
+    }
+    i
+}
+
+// The means from the end of a word on, stored as far as they fit; how many there are.
+pub(crate) fn means_from(line: &[u8], end: usize, out: &mut [i16]) -> usize
+    ensures { λ r. ⌜ Listed (leading isMean degrees (wordsLeft (drop end (now (line .entry))))) (now (out .entry)) r (now (out .exit)) ⌝ }
+{
+    let mut at = end;
+    let mut i = 0;
+    while at < line.len() {
+        let end = next(line, at + 1, b' ');
+        let Degrees::Mean(x) = mean(&line[at + 1..end]) else {
+            return i;
+        };
+        if i < out.len() {
+            out[i] = x;
+        }
+        i += 1;
+        at = end;
+    }
+    i
+}

@@ -1,0 +1,4 @@
+mod Parts
+mod Opening
+mod Saying
+mod Stepping

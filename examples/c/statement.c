@@ -1,0 +1,38 @@
+/* Reads a case file from standard input, or from the file named as argument, and prints its statement or its refusal (Case file). */
+#include "arvadush.h"
+
+#include <stdio.h>
+
+/* The longest text: `parts 1096`, 1,096 lines of at most 5 + 1 + 5 + 1 + 10 + 1 bytes, and the sum. */
+enum { TEXT = 11 + ARVADUSH_DAYS * 23 + 15 };
+
+static uint8_t file[ARVADUSH_FILE];
+static uint32_t weights[ARVADUSH_DAYS];
+static uint8_t marks[ARVADUSH_BOUNDARIES];
+static uint64_t counts[ARVADUSH_BOUNDARIES];
+static uint16_t from[ARVADUSH_DAYS], to[ARVADUSH_DAYS];
+static uint64_t wh[ARVADUSH_DAYS];
+static uint8_t text[TEXT];
+
+int main(int argc, char **argv)
+{
+    FILE *in = argc > 1 ? fopen(argv[1], "rb") : stdin;
+    if (in == NULL) {
+        perror(argv[1]);
+        return 2;
+    }
+    size_t length = fread(file, 1, sizeof file, in);
+
+    size_t n = 0, parts = 0;
+    arvadush_outcome outcome =
+        arvadush_read(file, length, weights, ARVADUSH_DAYS, marks, ARVADUSH_BOUNDARIES, counts, ARVADUSH_BOUNDARIES);
+    if (outcome.number == 0) {
+        n = outcome.value;
+        outcome = arvadush_statement(weights, n, marks, n + 1, counts, n + 1, from, n, to, n, wh, n);
+        parts = outcome.value;
+    }
+    size_t written = outcome.number == 0 ? arvadush_statement_text(from, n, to, n, wh, n, parts, text, TEXT)
+                                         : arvadush_refusal_text(outcome.number, outcome.place, text, TEXT);
+    fwrite(text, 1, written, stdout);
+    return outcome.number == 0 ? 0 : 1;
+}

@@ -1,0 +1,552 @@
+//! Random inputs, good and damaged, for the calls of every section.
+
+use crate::checks::{Account, File, Input, Outputs};
+use crate::random::Random;
+use model::history::Call;
+use model::{Boundary, Mean, ProfileNumber, Weekday, LARGEST_BOUNDARY};
+
+const LIMIT: u64 = 2_000_000_000;
+
+/// The days of a span: mostly few, seldom up to 1,096.
+fn days(random: &mut Random) -> usize {
+    match random.below(1_000) {
+        0..=2 => 1_096,
+        3..=8 => random.length(1, 1_096),
+        9..=79 => random.length(1, 60),
+        _ => random.length(1, 9),
+    }
+}
+
+/// A length that is mostly the right one.
+fn length(random: &mut Random, right: usize) -> usize {
+    if !random.once_in(24) {
+        return right;
+    }
+    match random.below(6) {
+        0 => 0,
+        1 => right.saturating_sub(1),
+        2 | 3 => right + 1,
+        4 => random.length(0, 12),
+        _ => random.pick(&[1_095, 1_096, 1_097, 1_098, 1_099, 1_100]),
+    }
+}
+
+fn mean(random: &mut Random) -> Mean {
+    match random.below(8) {
+        0 => random.pick(&[-5_000, -4_999, -1, 0, 1, 281, 282, 283, 699, 700, 701, 800, 1_556, 3_998, 3_999]),
+        1 => random.between(0, 8_999) as Mean - 5_000,
+        _ => random.between(0, 4_500) as Mean - 1_500,
+    }
+}
+
+fn bad_mean(random: &mut Random) -> Mean {
+    match random.below(4) {
+        0 => random.pick(&[-5_001, 4_000]),
+        1 => random.pick(&[Mean::MIN, Mean::MAX]),
+        2 => random.between(4_000, Mean::MAX as u64) as Mean,
+        _ => -(random.between(5_001, Mean::MAX as u64) as i64) as Mean,
+    }
+}
+
+fn any_mean(random: &mut Random) -> Mean {
+    if random.once_in(12) {
+        bad_mean(random)
+    } else {
+        mean(random)
+    }
+}
+
+/// A series of that length, one time in `damage` with a few means out of range.
+fn means(random: &mut Random, length: usize, damage: u64) -> Vec<Mean> {
+    let mut means: Vec<Mean> = (0..length).map(|_| mean(random)).collect();
+    if random.once_in(damage) && length > 0 {
+        for _ in 0..random.length(1, 2) {
+            means[random.length(0, length - 1)] = bad_mean(random);
+        }
+    }
+    means
+}
+
+fn profile(random: &mut Random) -> ProfileNumber {
+    if random.once_in(20) {
+        random.pick(&[10, 11, 15, 16, 128, 255, ProfileNumber::MAX])
+    } else {
+        random.below(10) as ProfileNumber
+    }
+}
+
+fn weekday(random: &mut Random) -> Weekday {
+    if random.once_in(20) {
+        random.pick(&[7, 8, 13, 14, 128, 255, Weekday::MAX])
+    } else {
+        random.below(7) as Weekday
+    }
+}
+
+fn weight(random: &mut Random) -> u32 {
+    match random.below(6) {
+        0 => random.pick(&[1, 2, 6_999_998, 6_999_999]),
+        1 => random.between(1, 10) as u32,
+        2 => random.between(1, 6_999_999) as u32,
+        _ => random.between(40_499, 5_270_598) as u32,
+    }
+}
+
+fn bad_weight(random: &mut Random) -> u32 {
+    random.pick(&[0, 7_000_000, 7_000_001, 1 << 31, u32::MAX])
+}
+
+fn any_weight(random: &mut Random) -> u32 {
+    if random.once_in(12) {
+        bad_weight(random)
+    } else {
+        weight(random)
+    }
+}
+
+/// Weights of some days; in some spans all are alike, so that exact halves occur.
+fn weights(random: &mut Random, n: usize) -> Vec<u32> {
+    let alike = weight(random);
+    let single = random.below(3);
+    (0..n).map(|_| if single == 0 { alike } else { weight(random) }).collect()
+}
+
+/// The first count and the most that may be added to it.
+fn counts_range(random: &mut Random) -> (u64, u64) {
+    let span = match random.below(6) {
+        0 => 0,
+        1 => random.between(1, 3),
+        2 => LIMIT,
+        3 => random.between(1, 1_000),
+        _ => random.between(0, LIMIT),
+    };
+    let base = match random.below(5) {
+        0 => 0,
+        1 => random.between(0, 1_000),
+        2 => u64::MAX - span,
+        3 => u64::MAX - span - random.below(5),
+        _ => random.next() % (u64::MAX - LIMIT),
+    };
+    (base, span)
+}
+
+/// A sound account.
+fn sound(random: &mut Random, n: usize) -> Account {
+    let (base, span) = counts_range(random);
+    let (readings_in, cuts_in) = (random.pick(&[1, 2, 3, 8, 1_000]), random.pick(&[1, 2, 4, 1_000]));
+    let (mut marks, mut counts) = (vec![0; n + 1], vec![0; n + 1]);
+    for mark in &mut marks {
+        *mark = 2 * random.once_in(readings_in) as u8 + random.once_in(cuts_in) as u8;
+    }
+    if random.once_in(2) {
+        marks[random.length(0, n / 2)] |= 2;
+        marks[random.length(n / 2, n)] |= 2;
+    }
+    let at: Vec<usize> = (0..=n).filter(|k| marks[*k] >= 2).collect();
+    let mut added: Vec<u64> = at.iter().map(|_| random.between(0, span)).collect();
+    if random.once_in(2) && !at.is_empty() {
+        added[0] = 0;
+        added[at.len() - 1] = span;
+    }
+    added.sort();
+    for (k, add) in at.iter().zip(added) {
+        counts[*k] = base + add;
+    }
+    Account { weights: weights(random, n), marks, counts }
+}
+
+/// Changes one thing of an account so that it is mostly unsound or its lengths unfit.
+fn damage(random: &mut Random, account: &mut Account) {
+    let Account { weights, marks, counts } = account;
+    let n = weights.len();
+    let k = random.length(0, n);
+    match random.below(9) {
+        0 => weights[random.length(0, n - 1)] = bad_weight(random),
+        1 => marks[k] = random.pick(&[4, 5, 6, 7, 8, 128, 254, 255]),
+        2 => counts[k] = random.pick(&[1, 2, LIMIT, u64::MAX]),
+        3 => counts.swap(k, n / 2),
+        4 => marks[k] ^= 2,
+        5 => {
+            marks[0] |= 2;
+            marks[n] |= 2;
+            let over = LIMIT + random.below(3);
+            counts[n] = counts[0].saturating_add(over);
+        }
+        6 => {
+            marks.iter_mut().for_each(|mark| *mark = random.next() as u8 % 5);
+            counts.iter_mut().for_each(|count| *count = random.below(3));
+        }
+        7 => marks.resize(length(random, n + 2), 0),
+        _ => counts.resize(length(random, n), 0),
+    }
+    if random.once_in(16) {
+        weights.resize(random.pick(&[0, n + 1, 1_096, 1_097, 1_098]), 1);
+        if random.once_in(2) {
+            marks.resize(weights.len() + 1, 0);
+            counts.resize(weights.len() + 1, 0);
+        }
+    }
+}
+
+fn account(random: &mut Random) -> Account {
+    let n = days(random);
+    let mut account = sound(random, n);
+    if random.once_in(4) {
+        damage(random, &mut account);
+    }
+    account
+}
+
+/// A boundary, seldom one above n, also such as would pass if it were cut to fewer bits.
+fn boundary(random: &mut Random, n: usize) -> Boundary {
+    if !random.once_in(16) {
+        return random.length(0, n);
+    }
+    let k = random.length(0, n);
+    let above = random.pick(&[n + 1, n + 2, 256 + k, 65_536 + k, (1 << 32) + k, (1 << 63) + k, LARGEST_BOUNDARY]);
+    above.min(LARGEST_BOUNDARY)
+}
+
+/// A count near those of the account, or any.
+fn count(random: &mut Random, account: &Account) -> u64 {
+    let near = match random.below(4) {
+        0 => return random.pick(&[0, 1, LIMIT, LIMIT + 1, u64::MAX, u64::MAX - LIMIT]),
+        1 => account.counts.iter().copied().find(|count| *count != 0).unwrap_or(0),
+        _ => match account.counts.len() {
+            0 => 0,
+            length => account.counts[random.length(0, length - 1)],
+        },
+    };
+    match random.below(8) {
+        0 => near.wrapping_add(LIMIT).wrapping_add(random.below(3)).wrapping_sub(1),
+        1 => near.wrapping_sub(LIMIT).wrapping_add(random.below(3)).wrapping_sub(1),
+        2 => near.wrapping_add(random.between(0, LIMIT)),
+        3 => near.wrapping_sub(random.between(0, LIMIT)),
+        4 => near.wrapping_add(1),
+        5 => near.wrapping_sub(1),
+        _ => near,
+    }
+}
+
+fn outputs(random: &mut Random, n: usize) -> Outputs {
+    let fill = random.below(2);
+    let lengths = [length(random, n), length(random, n), length(random, n)];
+    Outputs {
+        from: vec![fill as u16 * 0xabcd; lengths[0]],
+        to: vec![fill as u16 * 0x1234; lengths[1]],
+        wh: vec![fill * u64::MAX; lengths[2]],
+    }
+}
+
+/// Calls on one account whose counts mostly rise with the boundary, so that many are accepted.
+fn calls(random: &mut Random, n: usize) -> Vec<Call> {
+    let (base, span) = counts_range(random);
+    let step = span / n as u64;
+    let most = if n > 60 { 60 } else { 40 };
+    let narrow = random.once_in(3);
+    let mut calls = Vec::new();
+    for _ in 0..random.length(1, most) {
+        let k = if narrow { random.length(0, n).min(random.length(0, 3)) } else { boundary(random, n) };
+        calls.push(match random.below(20) {
+            0..=6 => {
+                let even = base.wrapping_add(step.wrapping_mul(k as u64));
+                let count = match random.below(10) {
+                    0 => base,
+                    1 => base.wrapping_add(LIMIT + random.below(2)),
+                    2 => base.wrapping_add(random.between(0, span)),
+                    3 => even.wrapping_add(random.below(3)).wrapping_sub(1),
+                    4 => random.pick(&[0, 1, u64::MAX, u64::MAX - 1, LIMIT]),
+                    _ => even,
+                };
+                Call::Reading(k, count)
+            }
+            7..=9 => Call::Withdraw(k),
+            10..=13 => Call::Cut(k),
+            14 | 15 => Call::Uncut(k),
+            _ if random.once_in(12) => Call::Statement([length(random, n), length(random, n), length(random, n)]),
+            _ => Call::Statement([n; 3]),
+        });
+    }
+    calls
+}
+
+fn list(random: &mut Random) -> Input {
+    let n = if random.once_in(100) { random.length(11, 1_096) } else { random.length(1, 10) };
+    let account = Account {
+        weights: weights(random, n),
+        marks: (0..=n).map(|_| random.next() as u8).collect(),
+        counts: (0..=n).map(|_| random.next()).collect(),
+    };
+    Input::List(account, calls(random, n))
+}
+
+fn customer_value(random: &mut Random) -> Input {
+    let right = days(random);
+    let n = length(random, right);
+    let mut weights = weights(random, n);
+    if random.once_in(10) && n > 0 {
+        weights[random.length(0, n - 1)] = bad_weight(random);
+    }
+    let z: u64 = weights.iter().map(|weight| *weight as u64).sum();
+    let energy = match random.below(8) {
+        0 => random.pick(&[0, 1, LIMIT, LIMIT + 1, u64::MAX]),
+        1 => random.next(),
+        2 => (z * 100_000).saturating_add(random.below(5)).saturating_sub(2),
+        _ => random.between(0, LIMIT),
+    };
+    Input::CustomerValue { energy, weights }
+}
+
+fn daily_amount(random: &mut Random) -> Input {
+    let most = 1_000_000_000_000;
+    let value = match random.below(8) {
+        0 => random.pick(&[0, 1, most, most + 1, u64::MAX]),
+        1 => random.next(),
+        2 => random.between(0, 1_000_000),
+        3 => 1_000_000 * random.between(0, 1_000_000),
+        _ => random.between(0, most),
+    };
+    let weight = if random.once_in(4) { 5 * random.between(1, 1_000) as u32 } else { any_weight(random) };
+    Input::DailyAmount { value, weight }
+}
+
+/// A section's count: mostly that of its items.
+fn section(random: &mut Random, file: &mut Vec<u8>, items: usize) {
+    let count = if random.once_in(40) {
+        random.pick(&[0, items.wrapping_sub(1), items + 1, items + 256, 0xffff])
+    } else {
+        items
+    };
+    file.extend((count as u16).to_le_bytes());
+}
+
+/// A case file that is mostly good, its sections sometimes with a fault.
+fn good_file(random: &mut Random) -> Vec<u8> {
+    let n = days(random);
+    let account = sound(random, n);
+    let mut file = vec![profile(random) as u8, weekday(random) as u8];
+    let count = if random.once_in(40) { random.pick(&[0, 1, 3, 4, 1_099, 1_100]) } else { n + 3 };
+    section(random, &mut file, count);
+    for mean in means(random, count, 12) {
+        file.extend((mean as i16).to_le_bytes());
+    }
+    let faults = if random.once_in(3) { 2 * n as u64 + 2 } else { u64::MAX >> 12 };
+    let field = |random: &mut Random, k: usize| -> [u8; 2] {
+        let k =
+            if random.once_in(faults) { random.pick(&[0, k.wrapping_sub(1), n, n + 1, n + 256, 0xffff]) } else { k };
+        (k as u16).to_le_bytes()
+    };
+    let readings: Vec<usize> = (0..=n).filter(|k| account.marks[*k] >= 2).collect();
+    section(random, &mut file, readings.len());
+    for k in readings {
+        file.extend(field(random, k));
+        let count = if random.once_in(faults) { self::count(random, &account) } else { account.counts[k] };
+        file.extend(count.to_le_bytes());
+    }
+    let cuts: Vec<usize> = (0..=n).filter(|k| account.marks[*k] & 1 == 1).collect();
+    section(random, &mut file, cuts.len());
+    for k in cuts {
+        file.extend(field(random, k));
+    }
+    file
+}
+
+/// A case file: good, truncated, with bytes left, with bits flipped, or of random bytes.
+pub fn file(random: &mut Random) -> Vec<u8> {
+    let mut file = good_file(random);
+    match random.below(12) {
+        0 => file.truncate(random.length(0, file.len())),
+        1 => file.truncate(file.len() - 1),
+        2 => file.extend((0..random.length(1, 20)).map(|_| 0)),
+        3 | 4 => {
+            for _ in 0..random.length(1, 3) {
+                let at = random.length(0, file.len() - 1);
+                file[at] ^= 1 << random.below(8);
+            }
+        }
+        5 => {
+            let at = random.length(0, file.len() - 1);
+            file.remove(at);
+        }
+        6 => {
+            let most = if random.once_in(500) { 20_000 } else { 60 };
+            file = (0..random.length(0, most)).map(|_| random.next() as u8).collect();
+            let known = [random.below(10) as u8, random.below(7) as u8, random.length(4, 9) as u8, 0];
+            let keep = random.length(0, 4).min(file.len());
+            file[..keep].copy_from_slice(&known[..keep]);
+        }
+        _ => {}
+    }
+    file
+}
+
+fn read(random: &mut Random) -> Input {
+    let mut lengths = [1_096, 1_097, 1_097];
+    if random.once_in(50) {
+        let i = random.length(0, 2);
+        lengths[i] = random.pick(&[0, 1, 1_095, 1_096, 1_097, 1_098]);
+    }
+    let fill = random.below(2);
+    let slices = Account {
+        weights: vec![fill as u32 * 77; lengths[0]],
+        marks: vec![fill as u8 * 3; lengths[1]],
+        counts: vec![fill * u64::MAX; lengths[2]],
+    };
+    Input::Read { file: File(file(random)), slices }
+}
+
+fn choose(random: &mut Random) -> Input {
+    let n = match random.below(12) {
+        0 => random.pick(&[0, 1_097, 1_100, 65_536, usize::MAX, usize::MAX - 2, usize::MAX - 3]),
+        1 => random.pick(&[1, 1_096]),
+        _ => random.length(1, 9),
+    };
+    let near = n.min(1_100) + 3;
+    let series = |random: &mut Random| {
+        let length = (near + random.length(0, 4)).saturating_sub(2 * random.length(0, 1));
+        let length = if random.once_in(8) { random.length(0, 3) } else { length };
+        means(random, length, 3)
+    };
+    Input::Choose { measured: series(random), forecast: series(random), n }
+}
+
+fn span(random: &mut Random) -> Input {
+    let n = days(random);
+    let count = length(random, n + 3);
+    let right = count.saturating_sub(3);
+    let out = vec![0xdead_beef; length(random, right)];
+    Input::Weights { profile: profile(random), weekday: weekday(random), means: means(random, count, 5), out }
+}
+
+/// The lines of a script for the console.
+pub fn script(random: &mut Random) -> Vec<u8> {
+    let mut text = String::new();
+    for _ in 0..random.length(1, 3) {
+        let n = if random.once_in(200) { random.length(1_090, 1_100) } else { random.length(1, 9) };
+        if random.once_in(2) {
+            let n = if random.once_in(10) { 0 } else { n };
+            let words: Vec<String> = (0..n).map(|_| any_weight(random).to_string()).collect();
+            text += &["weights".to_string()].into_iter().chain(words).collect::<Vec<_>>().join(" ");
+        } else {
+            text += &format!("days {} {}", profile(random), weekday(random));
+            let count = length(random, n + 3);
+            for mean in means(random, count, 6) {
+                text += &format!(" {mean}");
+            }
+        }
+        text += "\n";
+        for call in calls(random, n) {
+            text += &match call {
+                Call::Reading(k, count) => format!("reading {k} {count}\n"),
+                Call::Withdraw(k) => format!("withdraw {k}\n"),
+                Call::Cut(k) => format!("cut {k}\n"),
+                Call::Uncut(k) => format!("uncut {k}\n"),
+                Call::Statement(_) => "statement\n".to_string(),
+            };
+            if random.once_in(20) {
+                let odd = [
+                    "",
+                    "# cut 1",
+                    " cut 1",
+                    "cut  1",
+                    "cut 1 ",
+                    "cut",
+                    "cut 1 2",
+                    "cut x",
+                    "reading 1",
+                    "statement 1",
+                    "reading 0 18446744073709551616",
+                    "weights 4294967296",
+                    "weights 1 x",
+                    "days",
+                    "days 0",
+                    "Cut 1",
+                    "days 0 0 1 2",
+                    "uncut -1",
+                    "withdraw 99999999999999999999",
+                    "\t",
+                    "open",
+                    "cut 1\r",
+                ];
+                text += random.pick(&odd);
+                text += "\n";
+            }
+        }
+    }
+    let mut bytes = text.into_bytes();
+    if random.once_in(6) {
+        let at = random.length(0, bytes.len() - 1);
+        bytes[at] = random.next() as u8;
+    }
+    if random.once_in(10) {
+        bytes.truncate(random.length(0, bytes.len()));
+    }
+    bytes
+}
+
+fn number64(random: &mut Random) -> u64 {
+    let digits = random.below(65);
+    random.next().checked_shr(digits as u32).unwrap_or(0)
+}
+
+/// Outputs as a statement leaves them, or with a part too many or too great, and a buffer that the text fits or not.
+fn text(random: &mut Random) -> Input {
+    if random.once_in(3) {
+        let out = vec![7; random.length(0, 40)];
+        return Input::RefusalText { number: random.next() as u8, place: number64(random) as usize, out };
+    }
+    let n = days(random);
+    let mut parts = random.length(0, n);
+    let mut outputs = outputs(random, n);
+    outputs.wh.iter_mut().for_each(|wh| *wh = number64(random) % (LIMIT + 1));
+    outputs.from.iter_mut().for_each(|from| *from = number64(random) as u16);
+    outputs.to.iter_mut().for_each(|to| *to = number64(random) as u16);
+    if random.once_in(20) && !outputs.wh.is_empty() {
+        let at = random.length(0, outputs.wh.len() - 1);
+        outputs.wh[at] = random.pick(&[LIMIT, LIMIT + 1, 1 << 32, u64::MAX]);
+    }
+    if random.once_in(20) {
+        parts = random.pick(&[n + 1, 1_096, 1_097, usize::MAX]);
+    }
+    let room = if random.once_in(4) { random.length(0, 30 * n) } else { 23 * n + 40 };
+    Input::StatementText { outputs, parts, out: vec![7; room] }
+}
+
+/// One random input.
+pub fn input(random: &mut Random) -> Input {
+    match random.below(100) {
+        0..=5 => Input::Temperature([any_mean(random), any_mean(random), any_mean(random), any_mean(random)]),
+        6..=11 => choose(random),
+        12..=16 => Input::Value(profile(random), any_mean(random)),
+        17..=21 => Input::DayWeight(profile(random), weekday(random), any_mean(random)),
+        22..=31 => span(random),
+        32..=62 => {
+            let account = account(random);
+            let n = account.weights.len();
+            let mut k = boundary(random, n);
+            match random.below(10) {
+                0 => Input::Open(account),
+                1..=3 => {
+                    // Half of the time the next boundary without a reading, if there is one.
+                    if random.once_in(2) {
+                        k = (k..account.marks.len()).find(|k| account.marks[*k] < 2).unwrap_or(k);
+                    }
+                    let count = count(random, &account);
+                    Input::Reading(account, k, count)
+                }
+                4 => Input::Withdraw(account, k),
+                5 => Input::Cut(account, k),
+                6 => Input::Uncut(account, k),
+                _ => {
+                    let outputs = outputs(random, n);
+                    Input::Statement(account, outputs)
+                }
+            }
+        }
+        63..=74 => list(random),
+        75..=82 => customer_value(random),
+        83..=87 => daily_amount(random),
+        88..=89 => text(random),
+        _ => read(random),
+    }
+}

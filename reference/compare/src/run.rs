@@ -1,0 +1,85 @@
+//! A run of the comparison: the whole table of profile values, then random inputs; serves every section.
+
+use crate::checks::{Input, Outcome};
+use crate::library::{Library, Model};
+use crate::random::Random;
+use crate::{demand3, inputs};
+use model::history::Call;
+use model::profile::Profile;
+use std::collections::BTreeMap;
+
+/// How many inputs of each kind were refused with each number (0 is done).
+pub type Tally = BTreeMap<&'static str, BTreeMap<u8, u64>>;
+
+/// The model's outcome for one input, and what differs from it in the libraries.
+pub fn compare(input: &Input, libraries: &[Box<dyn Library>]) -> (Outcome, Vec<String>) {
+    let expected = input.run(&Model);
+    let mut differences = Vec::new();
+    for library in libraries {
+        let given = input.run(library.as_ref());
+        if given != expected {
+            differences.push(format!("{}:{}", library.name(), given.differences(&expected)));
+        }
+    }
+    if let Input::List(account, calls) = input {
+        let model: &dyn Library = &Model;
+        for library in libraries.iter().map(|library| library.as_ref()).chain([model]) {
+            if let Err(wrong) = demand3::check(library, account, calls) {
+                differences.push(format!("{}, demand 3: {wrong}", library.name()));
+            }
+        }
+    }
+    (expected, differences)
+}
+
+fn kind(call: &Call) -> &'static str {
+    match call {
+        Call::Reading(..) => "in lists: reading",
+        Call::Withdraw(..) => "in lists: withdraw",
+        Call::Cut(..) => "in lists: cut",
+        Call::Uncut(..) => "in lists: uncut",
+        Call::Statement(..) => "in lists: statement",
+    }
+}
+
+/// Every profile at every temperature: its value, the weight of each weekday, and a week of such days.
+pub fn table(libraries: &[Box<dyn Library>], mut report: impl FnMut(&Input, &str)) -> u64 {
+    let mut inputs = 0;
+    for profile in 0..10 {
+        for t in Profile::COLDEST..=Profile::WARMEST {
+            let weights = (0..7).map(|weekday| Input::DayWeight(profile, weekday, t));
+            let week = Input::Weights { profile, weekday: 0, means: vec![t; 10], out: vec![0; 7] };
+            for input in weights.chain([Input::Value(profile, t), week]) {
+                inputs += 1;
+                compare(&input, libraries).1.iter().for_each(|difference| report(&input, difference));
+            }
+        }
+    }
+    inputs
+}
+
+/// Input number `index` of the run with that seed.
+pub fn input(seed: u64, index: u64) -> Input {
+    inputs::input(&mut Random::new(seed, index))
+}
+
+/// Compares input number `index` and counts it.
+pub fn one(
+    seed: u64,
+    index: u64,
+    libraries: &[Box<dyn Library>],
+    tally: &mut Tally,
+    mut report: impl FnMut(&Input, &str),
+) {
+    let input = input(seed, index);
+    let (expected, differences) = compare(&input, libraries);
+    let mut count = |kind, number| *tally.entry(kind).or_default().entry(number).or_default() += 1;
+    count(input.kind(), expected.answer.number);
+    if let Input::List(_, calls) = &input {
+        // A list's values are number, place and parts of each call.
+        for (call, values) in calls.iter().zip(expected.values.chunks(3)) {
+            count(kind(call), values[0] as u8);
+        }
+    }
+    differences.iter().for_each(|difference| report(&input, difference));
+}

@@ -1,0 +1,306 @@
+//! Sections "Buyer's note on contracts" and "Errors seen in other houses": the comparison finds each wrong library.
+
+use compare::checks::Input;
+use compare::demand3;
+use compare::library::{compared, Library, Model};
+use compare::programs;
+use compare::run::{compare, input, one, Tally};
+use model::{refused, Answer, Boundary, Mean, ProfileNumber, Weekday, DONE};
+use std::cell::RefCell;
+
+/// The model with one fault, by name.
+struct Wrong(&'static str, RefCell<Option<(Vec<u16>, Vec<u16>, Vec<u64>, usize)>>);
+
+impl Wrong {
+    fn is(&self, fault: &str) -> bool {
+        self.0 == fault
+    }
+}
+
+impl Library for Wrong {
+    fn name(&self) -> &'static str {
+        self.0
+    }
+    fn temperature(&self, a: Mean, b: Mean, c: Mean, d: Mean) -> (Answer, Mean) {
+        if self.is("oldest mean weighted most") {
+            return Model.temperature(d, c, b, a);
+        }
+        let (mut answer, mut t) = Model.temperature(a, b, c, d);
+        if self.is("negative temperatures cut off") && answer == DONE {
+            t = ((16 * a as i32 + 8 * b as i32 + 4 * c as i32 + 2 * d as i32 + 15) / 30) as Mean;
+        }
+        if self.is("index always 0") {
+            answer.place = 0;
+        }
+        (answer, t)
+    }
+    fn choose<'a>(&self, measured: &'a [Mean], forecast: &'a [Mean], n: usize) -> &'a [Mean] {
+        if self.is("later means looked at") && measured.iter().any(|mean| *mean > 3_999) {
+            return Model.choose(&measured[..0], forecast, n);
+        }
+        let part = Model.choose(measured, forecast, n);
+        if self.is("empty part of the forecast") && part.is_empty() {
+            return &forecast[..0];
+        }
+        part
+    }
+    fn value(&self, profile: ProfileNumber, t: Mean) -> (Answer, i64, i64) {
+        let (answer, low, high) = Model.value(profile, t);
+        match self.0 {
+            "constant profile value" if answer == DONE => (answer, 1_000_000_000, 1_000_000_000),
+            "high value one less" if high > low => (answer, low, high - 1),
+            _ => (answer, low, high),
+        }
+    }
+    fn day_weight(&self, profile: ProfileNumber, weekday: Weekday, t: Mean) -> (Answer, u32) {
+        Model.day_weight(profile, weekday, t)
+    }
+    fn weights(&self, profile: ProfileNumber, weekday: Weekday, means: &[Mean], out: &mut [u32]) -> Answer {
+        if self.is("weekday after the means") && weekday > 6 && profile < 10 {
+            let answer = Model.weights(profile, 0, means, out);
+            return if answer == DONE { Model.weights(profile, weekday, means, out) } else { answer };
+        }
+        let before = out.to_vec();
+        let answer = Model.weights(profile, weekday, means, out);
+        if self.is("weights untouched after 4") && answer.number == 4 {
+            out.copy_from_slice(&before);
+        }
+        answer
+    }
+    fn open(&self, weights: &[u32], marks: &mut [u8], counts: &mut [u64]) -> Answer {
+        let kept = counts.to_vec();
+        let answer = Model.open(weights, marks, counts);
+        if self.is("open leaves the counts") {
+            counts.copy_from_slice(&kept);
+        }
+        answer
+    }
+    fn reading(&self, weights: &[u32], marks: &mut [u8], counts: &mut [u64], k: Boundary, count: u64) -> Answer {
+        let k = if self.is("boundary cut to 16 bits") { k as u16 as usize } else { k };
+        let (old_marks, old_counts) = (marks.to_vec(), counts.to_vec());
+        let answer = Model.reading(weights, marks, counts, k, count);
+        let equal = || old_counts.iter().zip(&old_marks).any(|(other, mark)| *mark >= 2 && *other == count);
+        match self.0 {
+            "reading stores nothing" => {
+                marks.copy_from_slice(&old_marks);
+                counts.copy_from_slice(&old_counts);
+            }
+            "second reading done" if answer.number == 7 => return DONE,
+            "equal count dropped as a bounce" if answer == DONE && equal() => {
+                marks.copy_from_slice(&old_marks);
+                counts.copy_from_slice(&old_counts);
+            }
+            "equal count refused" if answer == DONE && equal() => {
+                marks.copy_from_slice(&old_marks);
+                counts.copy_from_slice(&old_counts);
+                return refused(8);
+            }
+            "every call declines" => return refused(5),
+            "9 before 8" if answer.number == 8 && old_counts.iter().any(|c| count.abs_diff(*c) > 2_000_000_000) => {
+                return refused(9)
+            }
+            _ => {}
+        }
+        answer
+    }
+    fn withdraw(&self, weights: &[u32], marks: &mut [u8], counts: &mut [u64], k: Boundary) -> Answer {
+        let kept = counts.to_vec();
+        let answer = Model.withdraw(weights, marks, counts, k);
+        match self.0 {
+            "withdraw leaves the count" => counts.copy_from_slice(&kept),
+            "withdraw takes the cut" if answer == DONE => marks[k] = 0,
+            _ => {}
+        }
+        answer
+    }
+    fn cut(&self, weights: &[u32], marks: &mut [u8], counts: &[u64], k: Boundary) -> Answer {
+        let kept = marks.to_vec();
+        let answer = Model.cut(weights, marks, counts, k);
+        if self.is("cut stores nothing") {
+            marks.copy_from_slice(&kept);
+        }
+        answer
+    }
+    fn uncut(&self, weights: &[u32], marks: &mut [u8], counts: &[u64], k: Boundary) -> Answer {
+        Model.uncut(weights, marks, counts, k)
+    }
+    fn statement(
+        &self,
+        weights: &[u32],
+        marks: &[u8],
+        counts: &[u64],
+        from: &mut [u16],
+        to: &mut [u16],
+        wh: &mut [u64],
+    ) -> (Answer, usize) {
+        let old = wh.to_vec();
+        let (answer, parts) = Model.statement(weights, marks, counts, from, to, wh);
+        let whole = |from: usize, to: usize| weights[from..to].iter().map(|weight| *weight as u128).sum::<u128>();
+        match self.0 {
+            "outputs left after 11" if answer.number == 11 => wh.copy_from_slice(&old),
+            "11 with two readings" if parts == 1 => {
+                (from[0], to[0], wh[0]) = (0, 0, 0);
+                return (refused(11), 0);
+            }
+            "one part for the lot" if parts > 1 => {
+                (to[0], wh[0]) = (to[parts - 1], wh.iter().sum());
+                from[1..].fill(0);
+                to[1..].fill(0);
+                wh[1..].fill(0);
+                return (DONE, 1);
+            }
+            "each part rounded alone" | "halves down" if answer == DONE => {
+                let mut start = 0;
+                for i in 0..parts {
+                    let p = (0..=from[i] as usize).rev().find(|k| marks[*k] >= 2).unwrap();
+                    let q = (to[i] as usize..marks.len()).find(|k| marks[*k] >= 2).unwrap();
+                    let (energy, z) = ((counts[q] - counts[p]) as u128, whole(p, q));
+                    let upto = energy * whole(p, to[i] as usize);
+                    if self.is("halves down") {
+                        start = if from[i] as usize == p { 0 } else { start };
+                        let end = (2 * upto + z - 1) / (2 * z);
+                        wh[i] = (end - start) as u64;
+                        start = end;
+                    } else {
+                        wh[i] = ((2 * energy * whole(from[i] as usize, to[i] as usize) + z) / (2 * z)) as u64;
+                    }
+                }
+            }
+            "cut outside makes a part" if answer == DONE && parts < wh.len() => {
+                let last = to[parts - 1] as usize;
+                if let Some(k) = (last + 1..marks.len()).find(|k| marks[*k] != 0) {
+                    (from[parts], to[parts]) = (last as u16, k as u16);
+                    return (DONE, parts + 1);
+                }
+            }
+            "first statement repeated" if answer == DONE => {
+                let mut first = self.1.borrow_mut();
+                match first.as_ref() {
+                    Some((f, t, w, p)) if f.len() == from.len() => {
+                        from.copy_from_slice(f);
+                        to.copy_from_slice(t);
+                        wh.copy_from_slice(w);
+                        return (DONE, *p);
+                    }
+                    _ => *first = Some((from.to_vec(), to.to_vec(), wh.to_vec(), parts)),
+                }
+            }
+            _ => {}
+        }
+        (answer, parts)
+    }
+    fn customer_value(&self, energy: u64, weights: &[u32]) -> (Answer, u64) {
+        let (answer, value) = Model.customer_value(energy, weights);
+        match self.0 {
+            "customer value rounded down" if answer == DONE => {
+                let z: u64 = weights.iter().map(|weight| *weight as u64).sum();
+                (answer, energy * 10_000_000 / z)
+            }
+            "12 from 10^12 on" if value == 1_000_000_000_000 => (refused(12), 0),
+            _ => (answer, value),
+        }
+    }
+    fn daily_amount(&self, value: u64, weight: u32) -> (Answer, u64) {
+        let (answer, amount) = Model.daily_amount(value, weight);
+        if self.is("daily halves down") && answer == DONE {
+            return (answer, ((value as u128 * weight as u128 + 4_999_999) / 10_000_000) as u64);
+        }
+        (answer, amount)
+    }
+    fn read(&self, file: &[u8], weights: &mut [u32], marks: &mut [u8], counts: &mut [u64]) -> (Answer, usize) {
+        let (mut answer, n) = Model.read(file, weights, marks, counts);
+        match self.0 {
+            "13 at the item" if answer.number == 13 && answer.place == file.len() => answer.place -= file.len() % 2,
+            "8 at the boundary" if answer.number == 8 => answer.place -= 2,
+            "bytes left ignored" if answer.number == 13 && answer.place < file.len() => {
+                return self.read(&file[..answer.place], weights, marks, counts)
+            }
+            "weights left after a fault" if answer.number == 13 => weights[0] = 1,
+            _ => {}
+        }
+        (answer, n)
+    }
+}
+
+/// Faults that a list of calls shows by demand 3 alone.
+const IN_LISTS: [&str; 16] = [
+    "reading stores nothing",
+    "second reading done",
+    "equal count dropped as a bounce",
+    "equal count refused",
+    "every call declines",
+    "9 before 8",
+    "withdraw leaves the count",
+    "withdraw takes the cut",
+    "cut stores nothing",
+    "outputs left after 11",
+    "11 with two readings",
+    "one part for the lot",
+    "each part rounded alone",
+    "halves down",
+    "cut outside makes a part",
+    "first statement repeated",
+];
+
+const ELSEWHERE: [&str; 18] = [
+    "open leaves the counts",
+    "boundary cut to 16 bits",
+    "oldest mean weighted most",
+    "negative temperatures cut off",
+    "index always 0",
+    "later means looked at",
+    "empty part of the forecast",
+    "constant profile value",
+    "high value one less",
+    "weekday after the means",
+    "weights untouched after 4",
+    "customer value rounded down",
+    "12 from 10^12 on",
+    "daily halves down",
+    "13 at the item",
+    "8 at the boundary",
+    "bytes left ignored",
+    "weights left after a fault",
+];
+
+const SEED: u64 = 20_240_229;
+
+#[test]
+fn every_fault_is_found() {
+    for fault in IN_LISTS.iter().chain(&ELSEWHERE) {
+        let libraries: [Box<dyn Library>; 1] = [Box::new(Wrong(fault, RefCell::new(None)))];
+        let differences = (0..40_000).map(|index| compare(&input(SEED, index), &libraries).1);
+        let found = differences.flatten().next();
+        assert!(found.is_some_and(|text| text.contains(fault)), "{fault} is not found");
+    }
+}
+
+#[test]
+fn demand_3_alone_finds_the_faults_of_an_account() {
+    for fault in IN_LISTS {
+        let found = (0..40_000).find(|index| match input(SEED, *index) {
+            Input::List(account, calls) => demand3::check(&Wrong(fault, RefCell::new(None)), &account, &calls).is_err(),
+            _ => false,
+        });
+        assert!(found.is_some(), "{fault} is not found");
+    }
+}
+
+#[test]
+fn no_difference_without_a_fault() {
+    let libraries = compared();
+    let mut tally = Tally::new();
+    for index in 0..30_000 {
+        one(SEED, index, &libraries, &mut tally, |input, text| panic!("{input:?}\n{text}"));
+    }
+    for (kind, least) in [("reading", 7), ("statement", 4), ("case file", 9), ("weights", 5), ("customer value", 5)] {
+        assert!(tally[kind].len() >= least, "{kind} reaches too few rows: {:?}", tally[kind]);
+    }
+}
+
+#[test]
+fn the_programs_print_what_the_model_says() {
+    let fail = |text: String| panic!("{text}");
+    programs::statement(env!("CARGO_BIN_EXE_statement"), 60, SEED, fail);
+    programs::console(env!("CARGO_BIN_EXE_console"), 60, SEED, fail);
+}

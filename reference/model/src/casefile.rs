@@ -1,0 +1,152 @@
+//! Section "Case file": the reader over three lent slices, and what the statement program prints for a file.
+
+use crate::profile::Profile;
+use crate::temperature::in_range;
+use crate::{account, refused, refused_at, statement, value, Answer, Mean, ProfileNumber, Weekday, DONE};
+
+pub const WEIGHTS: usize = 1_096;
+pub const MARKS: usize = 1_097;
+pub const COUNTS: usize = 1_097;
+pub const MOST_BYTES: usize = 16_384;
+
+struct Contents {
+    weights: Vec<u32>,
+    marks: Vec<u8>,
+    counts: Vec<u64>,
+}
+
+/// The file and the reader's own position.
+struct Reader<'a> {
+    file: &'a [u8],
+    at: usize,
+}
+
+impl Reader<'_> {
+    /// The bytes of the next item, as a little-endian number for each field; 13 at the file's length if it ends early.
+    fn item(&mut self, fields: &[usize]) -> Result<Vec<u64>, Answer> {
+        if self.file.len() - self.at < fields.iter().sum() {
+            return Err(refused_at(13, self.file.len()));
+        }
+        let mut numbers = Vec::new();
+        for bytes in fields {
+            let field = &self.file[self.at..self.at + bytes];
+            numbers.push(field.iter().rev().fold(0, |number, byte| number * 256 + *byte as u64));
+            self.at += bytes;
+        }
+        Ok(numbers)
+    }
+
+    fn means(&mut self) -> Result<Vec<Mean>, Answer> {
+        let count = self.item(&[2])?[0] as usize;
+        if count < 4 || count > Profile::LONGEST + 3 {
+            return Err(refused_at(3, 2));
+        }
+        let mut means = Vec::new();
+        for _ in 0..count {
+            let place = self.at;
+            let mean = self.item(&[2])?[0] as u16 as i16 as Mean;
+            if !in_range(mean) {
+                return Err(refused_at(4, place));
+            }
+            means.push(mean);
+        }
+        Ok(means)
+    }
+
+    fn readings(&mut self, contents: &mut Contents) -> Result<(), Answer> {
+        let count = self.item(&[2])?[0];
+        let mut before = None;
+        for _ in 0..count {
+            let place = self.at;
+            let item = self.item(&[2, 8])?;
+            if before >= Some(item[0]) {
+                return Err(refused_at(13, place));
+            }
+            before = Some(item[0]);
+            let Contents { weights, marks, counts } = contents;
+            match account::reading(weights, marks, counts, item[0] as usize, item[1]).number {
+                0 => {}
+                6 => return Err(refused_at(6, place)),
+                number => return Err(refused_at(number, place + 2)),
+            }
+        }
+        Ok(())
+    }
+
+    fn cuts(&mut self, contents: &mut Contents) -> Result<(), Answer> {
+        let count = self.item(&[2])?[0];
+        let mut before = None;
+        for _ in 0..count {
+            let place = self.at;
+            let k = self.item(&[2])?[0];
+            if before >= Some(k) {
+                return Err(refused_at(13, place));
+            }
+            before = Some(k);
+            let answer = account::cut(&contents.weights, &mut contents.marks, &contents.counts, k as usize);
+            if answer != DONE {
+                return Err(refused_at(answer.number, place));
+            }
+        }
+        Ok(())
+    }
+
+    /// The whole file, front to back.
+    fn contents(&mut self) -> Result<Contents, Answer> {
+        let profile = self.item(&[1])?[0] as ProfileNumber;
+        if profile > 9 {
+            return Err(refused_at(1, 0));
+        }
+        let weekday = self.item(&[1])?[0] as Weekday;
+        if weekday > 6 {
+            return Err(refused_at(2, 1));
+        }
+        let means = self.means()?;
+        let n = means.len() - 3;
+        let mut contents = Contents { weights: vec![0; n], marks: vec![0; n + 1], counts: vec![0; n + 1] };
+        assert_eq!(value::weights(profile, weekday, &means, &mut contents.weights), DONE);
+        self.readings(&mut contents)?;
+        self.cuts(&mut contents)?;
+        if self.at < self.file.len() {
+            return Err(refused_at(13, self.at));
+        }
+        Ok(contents)
+    }
+}
+
+/// Reads a case file into slices of lengths 1,096, 1,097 and 1,097 and returns n; all zero after a fault.
+pub fn read(file: &[u8], weights: &mut [u32], marks: &mut [u8], counts: &mut [u64]) -> (Answer, usize) {
+    if weights.len() != WEIGHTS || marks.len() != MARKS || counts.len() != COUNTS {
+        return (refused(3), 0);
+    }
+    weights.fill(0);
+    marks.fill(0);
+    counts.fill(0);
+    match (Reader { file, at: 0 }).contents() {
+        Err(answer) => (answer, 0),
+        Ok(contents) => {
+            let n = contents.weights.len();
+            weights[..n].copy_from_slice(&contents.weights);
+            marks[..n + 1].copy_from_slice(&contents.marks);
+            counts[..n + 1].copy_from_slice(&contents.counts);
+            (DONE, n)
+        }
+    }
+}
+
+/// What the statement program prints for what stands on its standard input.
+pub fn program(input: &[u8]) -> String {
+    let file = &input[..input.len().min(MOST_BYTES)];
+    let (mut weights, mut marks, mut counts) = ([0; WEIGHTS], [0; MARKS], [0; COUNTS]);
+    let (answer, n) = read(file, &mut weights, &mut marks, &mut counts);
+    if answer != DONE {
+        return statement::refusal_text(answer);
+    }
+    let (mut from, mut to, mut wh) = (vec![0; n], vec![0; n], vec![0; n]);
+    let (answer, parts) =
+        statement::statement(&weights[..n], &marks[..n + 1], &counts[..n + 1], &mut from, &mut to, &mut wh);
+    if answer != DONE {
+        return statement::refusal_text(answer);
+    }
+    statement::text(&from, &to, &wh, parts)
+}

@@ -1,0 +1,88 @@
+//! Section "Account and its calls", the statement: parts between marked boundaries, written into lent slices.
+
+use crate::account::{lengths_fit, readings, sound, READING};
+use crate::profile::Profile;
+use crate::{nearest, refused, Answer, DONE};
+
+fn sum(weights: &[u32]) -> i128 {
+    weights.iter().map(|weight| *weight as i128).sum()
+}
+
+/// What boundary k has: a reading's count, or the count of the reading before it plus the share up to k.
+fn has(weights: &[u32], marks: &[u8], counts: &[u64], k: usize) -> u64 {
+    if marks[k] & READING != 0 {
+        return counts[k];
+    }
+    let at = readings(marks);
+    let p = *at.iter().filter(|p| **p < k).last().unwrap();
+    let q = *at.iter().find(|q| **q > k).unwrap();
+    let energy = (counts[q] - counts[p]) as i128;
+    counts[p] + nearest(energy * sum(&weights[p..k]), sum(&weights[p..q])) as u64
+}
+
+/// The parts of a sound account: from, to and Wh of each.
+pub fn parts(weights: &[u32], marks: &[u8], counts: &[u64]) -> Vec<(usize, usize, u64)> {
+    let at = readings(marks);
+    let (first, last) = (at[0], at[at.len() - 1]);
+    let marked: Vec<(usize, u64)> =
+        (first..=last).filter(|k| marks[*k] != 0).map(|k| (k, has(weights, marks, counts, k))).collect();
+    marked.windows(2).map(|pair| (pair[0].0, pair[1].0, pair[1].1 - pair[0].1)).collect()
+}
+
+/// The statement: the number of parts, and from, to, Wh of each in the output slices, zero past the parts.
+pub fn statement(
+    weights: &[u32],
+    marks: &[u8],
+    counts: &[u64],
+    from: &mut [u16],
+    to: &mut [u16],
+    wh: &mut [u64],
+) -> (Answer, usize) {
+    let n = weights.len();
+    if !lengths_fit(weights, marks, counts) || from.len() != n || to.len() != n || wh.len() != n {
+        return (refused(3), 0);
+    }
+    if !sound(weights, marks, counts) {
+        return (refused(5), 0);
+    }
+    from.fill(0);
+    to.fill(0);
+    wh.fill(0);
+    if readings(marks).len() < 2 {
+        return (refused(11), 0);
+    }
+    let parts = parts(weights, marks, counts);
+    for (i, part) in parts.iter().enumerate() {
+        from[i] = part.0 as u16;
+        to[i] = part.1 as u16;
+        wh[i] = part.2;
+    }
+    (DONE, parts.len())
+}
+
+/// The statement as the programs print it: the number of parts, a line for each, their sum.
+pub fn text(from: &[u16], to: &[u16], wh: &[u64], parts: usize) -> String {
+    let mut text = format!("parts {parts}\n");
+    for i in 0..parts {
+        text += &format!("{} {} {}\n", from[i], to[i], wh[i]);
+    }
+    text + &format!("sum {}\n", wh[..parts].iter().sum::<u64>())
+}
+
+/// A refusal as the programs print it.
+pub fn refusal_text(answer: Answer) -> String {
+    format!("refused {} {}\n", answer.number, answer.place)
+}
+
+/// A text at the start of a lent buffer, as much of it as fits; the length of the whole text.
+pub fn lay_out(text: &str, out: &mut [u8]) -> usize {
+    let fitting = text.len().min(out.len());
+    out[..fitting].copy_from_slice(&text.as_bytes()[..fitting]);
+    text.len()
+}
+
+/// No statement has so many parts in these outputs, or such a part.
+pub fn impossible(from: &[u16], to: &[u16], wh: &[u64], parts: usize) -> bool {
+    let longest = from.len().min(to.len()).min(wh.len()).min(Profile::LONGEST);
+    parts > longest || wh[..parts].iter().any(|part| *part > 2_000_000_000)
+}

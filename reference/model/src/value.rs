@@ -1,0 +1,91 @@
+//! Section "Profile value": the value low and high, a day's weight, and the weights of a span of days.
+
+use crate::power::{divide, power_high, power_low, Rounding, ONE};
+use crate::profile::{Profile, PROFILES};
+use crate::temperature::{in_range, rule};
+use crate::{refused, refused_at, Answer, Mean, ProfileNumber, Weekday, DONE};
+
+/// The share s, low and high: 1/(1+y) on the cold side and y/(1+y) on the warm one, in units of 1/one.
+fn share(profile: &Profile, t: Mean) -> (u128, u128) {
+    let b = profile.b.unsigned_abs() as u128;
+    let u = (4_000 - t as i128) as u128 * 100_000;
+    let c = profile.c as u128;
+    let whole = 1 << 60;
+    if b <= u {
+        let low = divide(whole, ONE + power_high(b, u, c), Rounding::Down);
+        let high = divide(whole, ONE + power_low(b, u, c), Rounding::Up);
+        (low, high)
+    } else {
+        let (p_low, p_high) = (power_low(u, b, c), power_high(u, b, c));
+        let low = divide(p_low * ONE, ONE + p_low, Rounding::Down);
+        let high = divide(p_high * ONE, ONE + p_high, Rounding::Up);
+        (low, high)
+    }
+}
+
+/// The value of a profile at temperature t, low and high, in units of 10^-9.
+pub fn value_rule(profile: &Profile, t: Mean) -> (i64, i64) {
+    let (share_low, share_high) = share(profile, t);
+    let heating = profile.mh * t as i64 + 100 * profile.bh;
+    let water = profile.mw * t as i64 + 100 * profile.bw;
+    let added = 100 * profile.d + heating.max(water);
+    let scale = profile.a as u128 * 100;
+    let low = divide(scale * share_low, ONE, Rounding::Down) as i64 + added;
+    let high = divide(scale * share_high, ONE, Rounding::Up) as i64 + added;
+    (low, high)
+}
+
+/// A day's weight in millionths.
+pub fn weight_rule(profile: &Profile, weekday: usize, t: Mean) -> u32 {
+    let low = value_rule(profile, t).0;
+    (low * profile.factors[weekday]).div_euclid(10_000_000) as u32
+}
+
+pub fn value(profile: ProfileNumber, t: Mean) -> (Answer, i64, i64) {
+    if profile > 9 {
+        return (refused(1), 0, 0);
+    }
+    if !in_range(t) {
+        return (refused_at(4, 0), 0, 0);
+    }
+    let (low, high) = value_rule(&PROFILES[profile as usize], t);
+    (DONE, low, high)
+}
+
+pub fn day_weight(profile: ProfileNumber, weekday: Weekday, t: Mean) -> (Answer, u32) {
+    if profile > 9 {
+        return (refused(1), 0);
+    }
+    if weekday > 6 {
+        return (refused(2), 0);
+    }
+    if !in_range(t) {
+        return (refused_at(4, 0), 0);
+    }
+    (DONE, weight_rule(&PROFILES[profile as usize], weekday as usize, t))
+}
+
+/// The weights of the days of a series, oldest mean first.
+pub fn weights(profile: ProfileNumber, weekday: Weekday, means: &[Mean], out: &mut [u32]) -> Answer {
+    if means.len() < 4 || means.len() > Profile::LONGEST + 3 || out.len() != means.len() - 3 {
+        return refused(3);
+    }
+    let answer = if profile > 9 {
+        refused(1)
+    } else if weekday > 6 {
+        refused(2)
+    } else {
+        match means.iter().position(|mean| !in_range(*mean)) {
+            Some(index) => refused_at(4, index),
+            None => DONE,
+        }
+    };
+    for k in 0..out.len() {
+        out[k] = 0;
+        if answer == DONE {
+            let t = rule(means[k + 3], means[k + 2], means[k + 1], means[k]);
+            out[k] = weight_rule(&PROFILES[profile as usize], (weekday as usize + k) % 7, t);
+        }
+    }
+    answer
+}
