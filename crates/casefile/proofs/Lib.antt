@@ -10,3 +10,5 @@ pub mod Answered
 pub mod Sound
 pub mod Held
 pub mod Again
+pub mod Longest
+pub mod Enough

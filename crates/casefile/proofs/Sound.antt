@@ -31,7 +31,7 @@ use Rattle.casefile.proofs.Chained.{span-none, in-order}
 use Rattle.casefile.proofs.Weighing.{GoodSpan, head-none, means-in, means-length}
 
 -- boundaries rise and counts do not fall
-climbs : (boundary : ℕ → ℕ) (i : ℕ) → falls boundary i ≡ false → above boundary i ≤ boundary i
+pub climbs : (boundary : ℕ → ℕ) (i : ℕ) → falls boundary i ≡ false → above boundary i ≤ boundary i
 climbs boundary i e = ltb-false (boundary i) (above boundary i) (rises boundary i ∙ e)
 
 holds-up : (s : List ℕ) (i : ℕ) → Sane s i → before (readingValue s) i ≤ readingValue s i

@@ -58,7 +58,7 @@ head-none s at e =
 pub means-length : (s : List ℕ) (i : ℕ) → length (firstMeans s i) ≡ i
 unfolding firstMeans
 means-length s zero = refl
-means-length s (suc i) = length-append (firstMeans s i) (signed16 s (meanPlace i) ∷ []) ∙ add-one _ ∙ ap suc (means-length s i)
+means-length s (suc i) = length-append (firstMeans s i) _ ∙ add-one _ ∙ ap suc (means-length s i)
 
 -- one more mean in range
 out-more : (xs : List ℤ) (t : ℤ) → firstOut xs ≡ length xs → inRange t ≡ true → firstOut (xs ++ (t ∷ [])) ≡ suc (length xs)

@@ -3,3 +3,4 @@ pub mod Case
 pub mod Faults
 pub mod Reader
 pub mod Sections
+pub mod Length

@@ -9,7 +9,9 @@ pub(crate) fn number16(file: &[u8], at: usize) -> usize
     requires { ⌜ at + 2 ≤ length (now file) ⌝ }
     ensures { λ r. ⌜ (r ≡ number16 (now (file .entry)) at) × (r < 65536) ⌝ }
 {
-    file[at] as usize + 256 * (file[at + 1] as usize)
+    let low = file[at] as usize;
+    let high = file[at + 1] as usize;
+    low + 256 * high
 }
 
 // The number in the four bytes at an offset.

@@ -70,10 +70,10 @@ fn first_count(file: &[u8], at: usize) -> u64
     requires { ⌜ at + 10 < 2 ^ 64 ⌝ }
     ensures { λ r. ⌜ (at + 10 ≤ length (now (file .entry)) → r ≡ number64 (now (file .entry)) (at + 2)) ⌝ }
 {
-    if file.len() < at + 10 {
-        return 0;
+    if at + 10 <= file.len() {
+        return number64(file, at + 2);
     }
-    number64(file, at + 2)
+    0
 }
 
 // Each reading from an offset on, up to the first fault.

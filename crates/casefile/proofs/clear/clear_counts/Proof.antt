@@ -29,13 +29,13 @@ loop-less : tie.Need-loop-less Inv-loop μ-loop
 loop-less c = omega arith
 
 loop-again : tie.Need-loop-again Inv-loop μ-loop
-loop-again c = cleared-more (c .before .loop .inv) (c .loop-test .taken)
+loop-again c = cleared-more (c .before .loop .inv) (omega arith)
 
 same-length : tie.Need-same-length Inv-loop μ-loop
 same-length c = c .before .loop .inv .long
 
 returns : tie.Need-returns Inv-loop μ-loop
-returns c = cleared-all (c .before .loop .inv) (c .loop-test .left)
+returns c = cleared-all (c .before .loop .inv) (omega arith)
 
 pub clear-counts-spec : {M : Type 1} → statement M
 clear-counts-spec =
