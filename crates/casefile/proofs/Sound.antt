@@ -128,7 +128,7 @@ span-weights s e =
     let w = weights-bounded (profileOf s) (weekdayOf s) (meansOf s) ready d (omega (arith, weights-length (profileOf s) (weekdayOf s) (meansOf s))) in
     simp (le-leb weightLeast (getD (weightsOf (profileOf s) (weekdayOf s) (meansOf s)) d 0) (w .0), le-leb (getD (weightsOf (profileOf s) (weekdayOf s) (meansOf s)) d 0) weightMost (w .1))
 
-days-kept : (s : List ℕ) (a : Account) → Kept s a → days a ≡ daysOf s
+pub days-kept : (s : List ℕ) (a : Account) → Kept s a → days a ≡ daysOf s
 days-kept s a k = ap length (k .weights-are) ∙ weights-length (profileOf s) (weekdayOf s) (meansOf s) ∙ ap (λ (n : ℕ). n - 3) (means-length s (meanCount s))
 
 kept-fits : (s : List ℕ) (a : Account) → Kept s a → GoodSpan (daysOf s) → unfit a ≡ false

@@ -21,6 +21,8 @@ use Rattle.account.specs.Calls as account
 use Rattle.statement.specs.Parts.{Outputs, parts, written}
 use Rattle.statement.specs.Call.{statementNumber, left}
 use Rattle.customer.specs.Customer.{customerRows, customerValue, amountRows, dailyAmount}
+use Rattle.casefile.specs.Case.{daysOf}
+use Rattle.casefile.specs.Reader.{verdict, faultNumber, faultPlace, slicesAfter}
 use Rattle.ffi.specs.declared.Outcome.{Outcome}
 use Rattle.ffi.specs.declared.Temperature.{Temperature}
 use Rattle.ffi.specs.declared.Values.{Values}
@@ -89,3 +91,10 @@ pub record AmountMet (v weight : ℕ) (r : Outcome) : Type 0 where
   pub answers : r .number ≡ amountRows v weight
   pub place : r .place ≡ 0
   pub values : r .value ≡ cond (eqb (amountRows v weight) 0) (dailyAmount v weight) 0
+
+-- ---- Case file
+pub record ReadMet (file : List ℕ) (lent : Account) (r : Outcome) (after : Account) : Type 0 where
+  pub numbers : r .number ≡ faultNumber (verdict file lent)
+  pub places : r .place ≡ faultPlace (verdict file lent)
+  pub returns : r .value ≡ cond (eqb (faultNumber (verdict file lent)) 0) (daysOf file) 0
+  pub fills : after ≡ slicesAfter file lent

@@ -2,6 +2,9 @@
 // include/arvadush.h declares them.
 mod returned;
 
+use returned::case_days;
+use returned::case_number;
+use returned::case_place;
 use returned::customer_number;
 use returned::customer_value;
 use returned::statement_number;
@@ -21,7 +24,7 @@ ghost use Rattle.account.specs.Calls.{cleared, readingPut, readingTaken, cutPut
 ghost use Rattle.account.specs.Table.{openNumber, readingNumber, withdrawNumber, cutNumber, uncutNumber};
 ghost use Rattle.statement.specs.Parts.{outputs};
 ghost use Rattle.layout.specs.Text.{LaidOut, statementText, refusalText};
-ghost use Rattle.ffi.specs.Calls.{TemperatureMet, ChooseMet, ValueMet, WeightMet, WeightsMet, AccountMet, StatementMet, CustomerMet, AmountMet};
+ghost use Rattle.ffi.specs.Calls.{TemperatureMet, ChooseMet, ValueMet, WeightMet, WeightsMet, AccountMet, StatementMet, CustomerMet, AmountMet, ReadMet};
 
 // The table's number (0 is done), the place or index that goes with it, and the value; 0 where there is none.
 #[repr(C)]
@@ -232,6 +235,24 @@ pub extern "C" fn arvadush_daily_amount(value: u64, weight: u32) -> Outcome
         number: customer_number(answer),
         place: 0,
         value: customer_value(answer),
+    }
+}
+
+// Reads a case file into the slices of an account, of lengths 1,096, 1,097 and 1,097, the rest zero; its value is n.
+#[no_mangle]
+pub extern "C" fn arvadush_read(
+    file: &[u8],
+    weights: &mut [u32],
+    marks: &mut [u8],
+    counts: &mut [u64],
+) -> Outcome
+    ensures { λ r. ⌜ ReadMet (now (file .entry)) (account (now (weights .entry)) (now (marks .entry)) (now (counts .entry))) r (account (now (weights .exit)) (now (marks .exit)) (now (counts .exit))) ⌝ }
+{
+    let answer = casefile::read_case(file, weights, marks, counts);
+    Outcome {
+        number: case_number(answer),
+        place: case_place(answer),
+        value: case_days(answer),
     }
 }
 

@@ -1,4 +1,5 @@
 // Each answer of the calls below as the paper's number (0 is done), its place and its values (If a call declines).
+use casefile::CaseAnswer;
 use customer::CustomerAnswer;
 use profile::ValueAnswer;
 use profile::WeightAnswer;
@@ -11,6 +12,7 @@ ghost use Rattle.weights.specs.Temperature as four;
 ghost use Rattle.weights.specs.Weights as span;
 ghost use Rattle.statement.specs.Call as call;
 ghost use Rattle.customer.specs.Customer as customer;
+ghost use Rattle.casefile.specs.Reader as reader;
 
 pub(crate) fn temperature_number(answer: TemperatureAnswer) -> u8
     ensures { λ r. ⌜ r ≡ four.number answer ⌝ }
@@ -158,5 +160,32 @@ pub(crate) fn customer_value(answer: CustomerAnswer) -> u64
         CustomerAnswer::Unsound => 0,
         CustomerAnswer::TooMuch => 0,
         CustomerAnswer::TooGreat => 0,
+    }
+}
+
+pub(crate) fn case_number(answer: CaseAnswer) -> u8
+    ensures { λ r. ⌜ r ≡ reader.number answer ⌝ }
+{
+    match answer {
+        CaseAnswer::Days(_) => 0,
+        CaseAnswer::Refused(number, _) => number,
+    }
+}
+
+pub(crate) fn case_place(answer: CaseAnswer) -> usize
+    ensures { λ r. ⌜ r ≡ reader.place answer ⌝ }
+{
+    match answer {
+        CaseAnswer::Days(_) => 0,
+        CaseAnswer::Refused(_, place) => place,
+    }
+}
+
+pub(crate) fn case_days(answer: CaseAnswer) -> u64
+    ensures { λ r. ⌜ r ≡ reader.days answer ⌝ }
+{
+    match answer {
+        CaseAnswer::Days(n) => n as u64,
+        CaseAnswer::Refused(_, _) => 0,
     }
 }

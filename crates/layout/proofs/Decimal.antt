@@ -1,5 +1,6 @@
 -- The decimal digits of a number: the fewest that hold it are as many as `places` counts, at most 20 for 64 bits. Assumes nothing.
 use mathlib.Core.Path.{_≡_, refl, sym, ap, _∙_}
+use mathlib.Core.Bool.{Bool, true, false, cond}
 use mathlib.Core.List.{List, [], _∷_, _++_}
 use Prim.Native.Nat.{ℕ, zero, suc, _+_, _-_, _*_, _/_, _%_, _^_, _≤_, _<_}
 use native.Mathlib.Nat.{div-lt-iff-lt-mul, le-div-iff-mul-le, pow-suc, one-le-pow, pow-le-pow-right, le-of-suc-le-suc}
@@ -7,7 +8,7 @@ use native.Mathlib.Decide.{decLe}
 use native.Mathlib.Numerals.{add-one}
 use native.Mathlib.Omega.{arith}
 use borrow.Author.Tests.{lt-ltb, le-ltb}
-use lib.Dec.{lit<}
+use lib.Dec.{lit<, ltb}
 use lib.ListN.{length, length-append}
 use Rattle.io.specs.Digits.{digits, Fewest, glyph}
 use Rattle.layout.specs.Text.{places, decimal}
@@ -53,3 +54,17 @@ decimal-is n k fewest small = ap (λ (m : ℕ). digits 10 m n) (sym (fewest-plac
 
 pub length-decimal : (n k : ℕ) → Fewest 10 1 n k → k ≤ 20 → length (decimal n) ≡ k
 length-decimal n k fewest small = ap length (sym (decimal-is n k fewest small)) ∙ length-digits k n
+
+-- no number is printed with more than 21 digits
+places-most : (more n : ℕ) → places more n ≤ suc more
+unfolding places
+places-most zero n = omega arith
+places-most (suc more) n = by (ltb n 10) (places-most more (n / 10))
+  where
+    by : (b : Bool) → places more (n / 10) ≤ suc more → cond b 1 (suc (places more (n / 10))) ≤ suc (suc more)
+    by true h = omega arith
+    by false h = omega arith
+
+pub decimal-most : (n : ℕ) → length (decimal n) ≤ 21
+unfolding decimal
+decimal-most n = omega (arith, length-digits (places 20 n) n, places-most 20 n)

@@ -1,3 +1,3 @@
-mod Decimal
+pub mod Decimal
 mod Laid
 mod Sums

@@ -50,7 +50,7 @@ pub fn line_end(text: &[u8], at: usize) -> usize
 }
 
 // A word's value, if it is a decimal number of at most so much.
-pub fn number(word: &[u8], most: u64) -> Decimal
+pub(crate) fn number(word: &[u8], most: u64) -> Decimal
     ensures { λ r. ⌜ r ≡ numberOf most (now (word .entry)) ⌝ }
 {
     if word.len() == 0 {
@@ -80,7 +80,7 @@ pub fn number(word: &[u8], most: u64) -> Decimal
 }
 
 // A word's value, if it is a mean.
-pub fn mean(word: &[u8]) -> Degrees
+pub(crate) fn mean(word: &[u8]) -> Degrees
     ensures { λ r. ⌜ r ≡ meanOf (now (word .entry)) ⌝ }
 {
     if word.len() == 0 {

@@ -1,4 +1,5 @@
 mod Parts
 mod Opening
-mod Saying
 mod Stepping
+mod Short
+mod Running

@@ -34,12 +34,6 @@ pub laid-back : (b : Account) (n m c : ℕ) (marks counts : List ℕ) → length
     account (b .weights) (marks ++ drop m (b .marks)) (counts ++ drop c (b .counts)) ≡ laid (account (take n (b .weights)) marks counts) b
 laid-back b n m c marks counts e f = rw (over-take n (b .weights), e, f)
 
--- the first of a buffer whose first part came back
-pub front-long : (d e : List ℕ) (n : ℕ) → n ≤ length d → length e ≡ length (take n d) → n ≡ length (take n (e ++ drop n d))
-front-long d e n h kept =
-    let long : length e ≡ n = kept ∙ length-take-le n d h in
-    sym (ap length (take-at e (drop n d) n long) ∙ long)
-
 -- one more of a list over the start of another
 pub copied : (f w : List ℕ) (i : ℕ) → i < length f → i < length w →
     set (take i f ++ drop i w) i (getD f i 0) ≡ take (i + 1) f ++ drop (i + 1) w

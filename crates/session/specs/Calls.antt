@@ -77,13 +77,3 @@ pub record OpenedMet (o : Outcome) (before : Account) (opened : Opened) (then : 
   pub places : opened .place ≡ o .place
   pub counts : opened .days ≡ openedDays o before
   pub leaves : then ≡ openedBuffers o before
-
--- `statement`: the statement, or its refusal
-abbrev pub statementNumber : Account → ℕ
-statementNumber a = accountRows a (statementRows (days a) (shown a))
-
-abbrev pub statementSays : Account → List ℕ
-statementSays a =
-    cond (eqb (statementNumber a) 0)
-    (statementText (written (days a) (parts (a .weights) (shown a))) (length (parts (a .weights) (shown a))))
-    (refusalText (statementNumber a) 0)

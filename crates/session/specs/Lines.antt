@@ -8,11 +8,12 @@ use lib.Dec.{eqb}
 use Rattle.account.specs.Account.{Account}
 use Rattle.weights.specs.Weights.{Outcome}
 use Rattle.layout.specs.Text.{doneText, refusalText, unknownText, LaidOut}
+use Rattle.report.specs.Report.{accountText}
 use Rattle.script.specs.Calls.{commandOf}
 use Rattle.script.specs.declared.Command.{Command}
 use Rattle.script.specs.declared.Command.the-variants.{Blank, Unknown, Weights, Days, Change, Statement}
 use Rattle.session.specs.Buffers.{held, laid}
-use Rattle.session.specs.Calls.{callNumber, after, weightsOffer, daysOffer, openedNumber, openedDays, openedBuffers, statementSays}
+use Rattle.session.specs.Calls.{callNumber, after, weightsOffer, daysOffer, openedNumber, openedDays, openedBuffers}
 use Rattle.session.specs.declared.Said.{Said}
 
 abbrev pub answerText : ℕ → ℕ → List ℕ
@@ -41,7 +42,7 @@ says Unknown line l s = unknownText l
 says Weights line l s = openedSays (weightsOffer line) s
 says (Days profile weekday) line l s = openedSays (daysOffer profile weekday line) s
 says (Change c) line l s = answerText (callNumber (held (s .days) (s .buffers)) c) 0
-says Statement line l s = statementSays (held (s .days) (s .buffers))
+says Statement line l s = accountText (held (s .days) (s .buffers))
 
 abbrev pub next : Command → List ℕ → Session → Session
 next Blank line s = s

@@ -1,11 +1,12 @@
 // A session of the console: each line of a script, done on buffers that hold an account.
 mod cuts;
+mod gathered;
 mod open;
-mod print;
 
 use account::number_of;
 use cuts::boundaries;
 use cuts::days_of;
+use gathered::gather;
 use layout::done_text;
 use layout::refusal_text;
 use layout::unknown_text;
@@ -17,9 +18,14 @@ ghost use mathlib.Core.Bool.{cond};
 ghost use lib.Dec.{eqb};
 ghost use Rattle.account.specs.Account.{account};
 ghost use Rattle.layout.specs.Text.{LaidOut};
+ghost use Rattle.report.specs.Report.{accountText};
 ghost use Rattle.session.specs.Buffers.{held};
-ghost use Rattle.session.specs.Calls.{CallMet, ChangeMet, OpenedMet, weightsOffer, daysOffer, statementSays};
+ghost use Rattle.session.specs.Calls.{CallMet, ChangeMet, OpenedMet, weightsOffer, daysOffer};
 ghost use Rattle.session.specs.Lines.{answerText, session, StepMet};
+ghost use Rattle.session.specs.Transcript.{RunMet};
+
+// No answer is longer.
+const LONGEST: usize = 72_390;
 
 // What opening an account answers: 0 and its days, or the number of a refusal and its place.
 pub struct Opened {
@@ -34,8 +40,64 @@ pub struct Said {
     pub length: usize,
 }
 
+// How far a script was run: the offset of the next line, the lines done, the days of the account, and how long the answers are.
+pub struct Ran {
+    pub at: usize,
+    pub done: usize,
+    pub days: usize,
+    pub length: usize,
+}
+
+// The lines of a script from an offset on, after so many done: their answers at the start of out, as long as it can hold one more.
+pub fn run(
+    text: &[u8],
+    at: usize,
+    done: usize,
+    days: usize,
+    weights: &mut [u32],
+    marks: &mut [u8],
+    counts: &mut [u64],
+    out: &mut [u8],
+) -> Ran
+    ensures { λ r. ⌜ RunMet (now (text .entry)) at done (session days (account (now (weights .entry)) (now (marks .entry)) (now (counts .entry)))) (now (out .entry)) r (account (now (weights .exit)) (now (marks .exit)) (now (counts .exit))) (now (out .exit)) ⌝ }
+{
+    let mut at = at;
+    let mut done = done;
+    let mut days = days;
+    let mut length = 0;
+    while at < text.len() {
+        if out.len() - length < LONGEST {
+            break;
+        }
+        if usize::MAX <= done {
+            break;
+        }
+        let end = script::line_end(text, at);
+        done += 1;
+        let said = gather(
+            &text[at..end],
+            done,
+            days,
+            weights,
+            marks,
+            counts,
+            out,
+            length,
+        );
+        days = said.days;
+        length += said.length;
+        at = end + 1;
+    }
+    Ran {
+        at,
+        done,
+        days,
+        length,
+    }
+}
+
 // One line of a script, with its number: its answer at the start of out.
-pub fn step(
+pub(crate) fn step(
     line: &[u8],
     number: usize,
     days: usize,
@@ -86,7 +148,7 @@ fn open_answer(opened: Opened, days: usize, out: &mut [u8]) -> Said
 }
 
 // A call that can change what stands, on the account that the buffers hold: the number of its answer.
-pub fn change(call: Call, days: usize, weights: &[u32], marks: &mut [u8], counts: &mut [u64]) -> u8
+fn change(call: Call, days: usize, weights: &[u32], marks: &mut [u8], counts: &mut [u64]) -> u8
     ensures { λ r. ⌜ ChangeMet days call (account (now (weights .entry)) (now (marks .entry)) (now (counts .entry))) r (account (now (weights .exit)) (now (marks .exit)) (now (counts .exit))) ⌝ }
 {
     let n = days_of(days, weights.len());
@@ -108,12 +170,7 @@ fn on_account(call: Call, weights: &[u32], marks: &mut [u8], counts: &mut [u64])
 }
 
 // An account over the weights of a `weights` line.
-pub fn open_weights(
-    line: &[u8],
-    weights: &mut [u32],
-    marks: &mut [u8],
-    counts: &mut [u64],
-) -> Opened
+fn open_weights(line: &[u8], weights: &mut [u32], marks: &mut [u8], counts: &mut [u64]) -> Opened
     ensures { λ r. ⌜ OpenedMet (weightsOffer (now (line .entry))) (account (now (weights .entry)) (now (marks .entry)) (now (counts .entry))) r (account (now (weights .exit)) (now (marks .exit)) (now (counts .exit))) ⌝ }
 {
     let mut fresh = [0u32; Profile::SPAN];
@@ -125,7 +182,7 @@ pub fn open_weights(
 }
 
 // An account over the weights that the means of a `days` line give.
-pub fn open_days(
+fn open_days(
     profile: u8,
     weekday: u8,
     line: &[u8],
@@ -153,23 +210,17 @@ pub fn open_days(
 }
 
 // The statement of the account that the buffers hold, or its refusal, at the start of out.
-pub fn statement(
-    days: usize,
-    weights: &[u32],
-    marks: &[u8],
-    counts: &[u64],
-    out: &mut [u8],
-) -> usize
-    ensures { λ r. ⌜ LaidOut 0 (statementSays (held days (account (now (weights .entry)) (now (marks .entry)) (now (counts .entry))))) (now (out .entry)) r (now (out .exit)) ⌝ }
+fn statement(days: usize, weights: &[u32], marks: &[u8], counts: &[u64], out: &mut [u8]) -> usize
+    ensures { λ r. ⌜ LaidOut 0 (accountText (held days (account (now (weights .entry)) (now (marks .entry)) (now (counts .entry))))) (now (out .entry)) r (now (out .exit)) ⌝ }
 {
     let n = days_of(days, weights.len());
     let m = boundaries(days, marks.len());
     let c = boundaries(days, counts.len());
-    print::account_statement(&weights[..n], &marks[..m], &counts[..c], out)
+    report::account_text(&weights[..n], &marks[..m], &counts[..c], out)
 }
 
 // The answer of a call with a number and a place, at the start of out.
-pub fn answer_text(number: u8, place: usize, out: &mut [u8]) -> usize
+fn answer_text(number: u8, place: usize, out: &mut [u8]) -> usize
     ensures { λ r. ⌜ LaidOut 0 (answerText number place) (now (out .entry)) r (now (out .exit)) ⌝ }
 {
     if number == 0 {

@@ -24,7 +24,7 @@ struct Options {
 
 fn options() -> Options {
     let now = SystemTime::now().duration_since(UNIX_EPOCH).unwrap().as_nanos() as u64;
-    let mut options = Options { seed: now, inputs: 1_000_000, first: 0, runs: 2_000, statement: None, console: None };
+    let mut options = Options { seed: now, inputs: 2_000_000, first: 0, runs: 2_000, statement: None, console: None };
     let mut words = std::env::args().skip(1);
     while let Some(word) = words.next() {
         let value = words.next().unwrap_or_else(|| panic!("{word} needs a value"));

@@ -35,6 +35,17 @@ impl<V> Outcome<V> {
     }
 }
 
+impl Outcome<u64> {
+    /// The answer of a call that has no value: one that no call gives where the value is not 0.
+    fn answer_alone(&self) -> Answer {
+        if self.value == 0 {
+            self.answer()
+        } else {
+            Answer { number: u8::MAX, place: self.place }
+        }
+    }
+}
+
 /// The answer of a call that returns the table's number alone.
 fn answer(number: u8) -> Answer {
     Answer { number, place: 0 }
@@ -62,7 +73,6 @@ extern "C" {
         from: *mut u16, _: usize, to: *mut u16, _: usize, wh: *mut u64, _: usize) -> Outcome<u64>;
     fn arvadush_customer_value(energy: u64, weights: *const u32, _: usize) -> Outcome<u64>;
     fn arvadush_daily_amount(value: u64, weight: u32) -> Outcome<u64>;
-    #[allow(dead_code)]
     fn arvadush_read(file: *const u8, _: usize, weights: *mut u32, _: usize, marks: *mut u8, _: usize,
         counts: *mut u64, _: usize) -> Outcome<u64>;
     fn arvadush_statement_text(from: *const u16, _: usize, to: *const u16, _: usize, wh: *const u64, _: usize,
@@ -85,11 +95,12 @@ impl Library for Proved {
         let chosen = unsafe {
             arvadush_choose(measured.as_ptr(), measured.len(), forecast.as_ptr(), forecast.len(), n)
         };
-        match (chosen.series, chosen.means) {
-            (0, 0) | (1, _) => &measured[..chosen.means],
-            (2, _) => &forecast[..chosen.means],
-            (series, means) => panic!("the chooser returned {means} means of series {series}"),
-        }
+        let part = match (chosen.series, chosen.means) {
+            (0, 0) | (1, _) => measured.get(..chosen.means),
+            (2, _) => forecast.get(..chosen.means),
+            _ => None,
+        };
+        part.unwrap_or(&[]) // a part of neither series, which differs from every answer of the model
     }
     fn value(&self, profile: ProfileNumber, t: Mean) -> (Answer, i64, i64) {
         let returned = unsafe { arvadush_value(profile, t) };
@@ -100,7 +111,10 @@ impl Library for Proved {
         (returned.answer(), u32::try_from(returned.value).unwrap_or(u32::MAX))
     }
     fn weights(&self, profile: ProfileNumber, weekday: Weekday, means: &[Mean], out: &mut [u32]) -> Answer {
-        unsafe { arvadush_weights(profile, weekday, means.as_ptr(), means.len(), out.as_mut_ptr(), out.len()) }.answer()
+        let returned = unsafe {
+            arvadush_weights(profile, weekday, means.as_ptr(), means.len(), out.as_mut_ptr(), out.len())
+        };
+        returned.answer_alone()
     }
     fn open(&self, weights: &[u32], marks: &mut [u8], counts: &mut [u64]) -> Answer {
         answer(unsafe {
@@ -150,7 +164,11 @@ impl Library for Proved {
         (returned.answer(), returned.value)
     }
     fn read(&self, file: &[u8], weights: &mut [u32], marks: &mut [u8], counts: &mut [u64]) -> (Answer, usize) {
-        model::casefile::read(file, weights, marks, counts) // the library has no reader yet
+        let returned = unsafe {
+            arvadush_read(file.as_ptr(), file.len(), weights.as_mut_ptr(), weights.len(),
+                marks.as_mut_ptr(), marks.len(), counts.as_mut_ptr(), counts.len())
+        };
+        (returned.answer(), returned.value as usize)
     }
     fn statement_text(&self, from: &[u16], to: &[u16], wh: &[u64], parts: usize, out: &mut [u8]) -> usize {
         unsafe {

@@ -53,7 +53,12 @@ impl Library for Wrong {
         }
     }
     fn day_weight(&self, profile: ProfileNumber, weekday: Weekday, t: Mean) -> (Answer, u32) {
-        Model.day_weight(profile, weekday, t)
+        let (answer, weight) = Model.day_weight(profile, weekday, t);
+        match self.0 {
+            "weekday 7 is Monday" if weekday == 7 => Model.day_weight(profile, 0, t),
+            "weight rounded up" if answer == DONE => (answer, weight + 1),
+            _ => (answer, weight),
+        }
     }
     fn weights(&self, profile: ProfileNumber, weekday: Weekday, means: &[Mean], out: &mut [u32]) -> Answer {
         if self.is("weekday after the means") && weekday > 6 && profile < 10 {
@@ -122,7 +127,14 @@ impl Library for Wrong {
         answer
     }
     fn uncut(&self, weights: &[u32], marks: &mut [u8], counts: &[u64], k: Boundary) -> Answer {
-        Model.uncut(weights, marks, counts, k)
+        let kept = marks.to_vec();
+        let answer = Model.uncut(weights, marks, counts, k);
+        match self.0 {
+            "uncut stores nothing" => marks.copy_from_slice(&kept),
+            "uncut takes the reading" if answer == DONE => marks[k] = 0,
+            _ => {}
+        }
+        answer
     }
     fn statement(
         &self,
@@ -216,14 +228,39 @@ impl Library for Wrong {
                 return self.read(&file[..answer.place], weights, marks, counts)
             }
             "weights left after a fault" if answer.number == 13 => weights[0] = 1,
+            "a cut wipes out its reading" if answer == DONE => {
+                marks.iter_mut().for_each(|mark| *mark &= 2 - (*mark & 1))
+            }
             _ => {}
         }
         (answer, n)
     }
+    fn statement_text(&self, from: &[u16], to: &[u16], wh: &[u64], parts: usize, out: &mut [u8]) -> usize {
+        if self.is("from and to exchanged") {
+            return Model.statement_text(to, from, wh, parts, out);
+        }
+        let length = Model.statement_text(from, to, wh, parts, out);
+        match self.0 {
+            "a byte past the text" if length < out.len() => out[length] = 0,
+            "only what fits is counted" => return length.min(out.len()),
+            _ => {}
+        }
+        length
+    }
+    fn refusal_text(&self, number: u8, place: usize, out: &mut [u8]) -> usize {
+        if self.is("number and place exchanged") {
+            return Model.refusal_text(place as u8, number as usize, out);
+        }
+        let length = Model.refusal_text(number, place, out);
+        if self.is("refusal without its end") && length <= out.len() {
+            out[length - 1] = b' ';
+        }
+        length
+    }
 }
 
 /// Faults that a list of calls shows by demand 3 alone.
-const IN_LISTS: [&str; 16] = [
+const IN_LISTS: [&str; 18] = [
     "reading stores nothing",
     "second reading done",
     "equal count dropped as a bounce",
@@ -233,6 +270,8 @@ const IN_LISTS: [&str; 16] = [
     "withdraw leaves the count",
     "withdraw takes the cut",
     "cut stores nothing",
+    "uncut stores nothing",
+    "uncut takes the reading",
     "outputs left after 11",
     "11 with two readings",
     "one part for the lot",
@@ -242,7 +281,7 @@ const IN_LISTS: [&str; 16] = [
     "first statement repeated",
 ];
 
-const ELSEWHERE: [&str; 18] = [
+const ELSEWHERE: [&str; 26] = [
     "open leaves the counts",
     "boundary cut to 16 bits",
     "oldest mean weighted most",
@@ -261,6 +300,14 @@ const ELSEWHERE: [&str; 18] = [
     "8 at the boundary",
     "bytes left ignored",
     "weights left after a fault",
+    "a cut wipes out its reading",
+    "weekday 7 is Monday",
+    "weight rounded up",
+    "from and to exchanged",
+    "a byte past the text",
+    "only what fits is counted",
+    "number and place exchanged",
+    "refusal without its end",
 ];
 
 const SEED: u64 = 20_240_229;

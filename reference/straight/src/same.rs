@@ -1,4 +1,4 @@
-//! Sections "Account and its calls" and "Case file" with the proved library's algorithms: no vectors, single passes.
+//! Sections "Account and its calls" and "Case file" with the proved library's algorithms: the same passes over the same slices, no vectors.
 
 use crate::weights::Newton;
 use crate::{HEAVIEST, LONGEST, MOST_ENERGY};
@@ -8,12 +8,11 @@ pub fn weights(profile: ProfileNumber, weekday: Weekday, means: &[Mean], out: &m
     crate::weights::weights::<Newton>(profile, weekday, means, out)
 }
 
-fn fit(weights: &[u32], marks: &[u8], counts: &[u64]) -> bool {
-    let n = weights.len();
-    n >= 1 && n <= LONGEST && marks.len() == n + 1 && counts.len() == n + 1
+fn is_reading(mark: u8) -> bool {
+    mark == 2 || mark == 3
 }
 
-fn weights_sound(weights: &[u32]) -> bool {
+fn good_weights(weights: &[u32]) -> bool {
     for weight in weights {
         if *weight < 1 || *weight > HEAVIEST {
             return false;
@@ -22,76 +21,147 @@ fn weights_sound(weights: &[u32]) -> bool {
     true
 }
 
-/// One pass over marks and counts.
-fn marks_sound(marks: &[u8], counts: &[u64]) -> bool {
-    let (mut any, mut first, mut last) = (false, 0, 0);
-    for k in 0..marks.len() {
-        let count = counts[k];
-        if marks[k] > 3 {
+/// Marks 0 to 3, no count without a reading, readings never falling.
+fn good_boundaries(marks: &[u8], counts: &[u64]) -> bool {
+    let mut last = 0;
+    for (mark, count) in marks.iter().zip(counts) {
+        if *mark > 3 {
             return false;
         }
-        if marks[k] < 2 {
-            if count != 0 {
+        if is_reading(*mark) {
+            if *count < last {
                 return false;
             }
-        } else {
-            if !any {
-                any = true;
-                first = count;
-            } else if count < last {
-                return false;
-            }
-            last = count;
+            last = *count;
+        } else if *count != 0 {
+            return false;
         }
     }
-    last - first <= MOST_ENERGY
+    true
 }
 
-/// The first boundary at or after k with a reading, or the length of the marks.
-fn next_reading(marks: &[u8], mut k: usize) -> usize {
-    while k < marks.len() && marks[k] < 2 {
-        k += 1;
-    }
-    k
+fn first_reading(marks: &[u8]) -> Option<usize> {
+    marks.iter().position(|mark| is_reading(*mark))
 }
 
 fn last_reading(marks: &[u8]) -> Option<usize> {
-    marks.iter().rposition(|mark| *mark >= 2)
+    marks.iter().rposition(|mark| is_reading(*mark))
+}
+
+fn last_less_first(marks: &[u8], counts: &[u64]) -> u64 {
+    match (last_reading(marks), first_reading(marks)) {
+        (Some(last), Some(first)) => counts[last] - counts[first],
+        _ => 0,
+    }
+}
+
+/// The rows that every call but open checks first: 3, 5, or 0 for neither.
+fn check(weights: &[u32], marks: &[u8], counts: &[u64]) -> u8 {
+    let n = weights.len();
+    if n < 1 || n > LONGEST || marks.len() != n + 1 || counts.len() != n + 1 {
+        return 3;
+    }
+    if !good_weights(weights) || !good_boundaries(marks, counts) || last_less_first(marks, counts) > MOST_ENERGY {
+        return 5;
+    }
+    0
+}
+
+/// Whether a count at boundary k is below an earlier reading or above a later one: one pass over all readings.
+fn out_of_order(marks: &[u8], counts: &[u64], k: usize, count: u64) -> bool {
+    for (j, (mark, other)) in marks.iter().zip(counts).enumerate() {
+        if is_reading(*mark) && (j < k && count < *other || k < j && *other < count) {
+            return true;
+        }
+    }
+    false
+}
+
+/// Last less first with this count taken in at boundary k.
+fn last_less_first_with(marks: &[u8], counts: &[u64], k: usize, count: u64) -> u64 {
+    let last = last_reading(marks).filter(|last| *last > k).map_or(count, |last| counts[last]);
+    let first = first_reading(marks).filter(|first| *first < k).map_or(count, |first| counts[first]);
+    last - first
 }
 
 pub fn reading(weights: &[u32], marks: &mut [u8], counts: &mut [u64], k: usize, count: u64) -> Answer {
-    if !fit(weights, marks, counts) {
-        return refused(3);
+    let number = check(weights, marks, counts);
+    if number != 0 {
+        return refused(number);
     }
-    if !weights_sound(weights) || !marks_sound(marks, counts) {
-        return refused(5);
-    }
-    if k >= marks.len() {
+    if k > weights.len() {
         return refused(6);
     }
-    if marks[k] >= 2 {
+    if is_reading(marks[k]) {
         return refused(7);
     }
-    let (mut first, mut last) = (count, count);
-    if let Some(before) = last_reading(&marks[..k]) {
-        if counts[before] > count {
-            return refused(8);
-        }
-        first = counts[next_reading(marks, 0)];
+    if out_of_order(marks, counts, k, count) {
+        return refused(8);
     }
-    let after = next_reading(marks, k + 1);
-    if after < marks.len() {
-        if counts[after] < count {
-            return refused(8);
-        }
-        last = counts[last_reading(marks).unwrap()];
-    }
-    if last - first > MOST_ENERGY {
+    if last_less_first_with(marks, counts, k, count) > MOST_ENERGY {
         return refused(9);
     }
     marks[k] += 2;
     counts[k] = count;
     DONE
+}
+
+/// The first boundary at or after k with a reading, or the length of the marks.
+fn next_reading(marks: &[u8], mut k: usize) -> usize {
+    while k < marks.len() && !is_reading(marks[k]) {
+        k += 1;
+    }
+    k
+}
+
+fn count_readings(marks: &[u8]) -> usize {
+    marks.iter().filter(|mark| is_reading(**mark)).count()
+}
+
+/// x / d, an exact half going up; nothing is doubled.
+fn nearest(x: u64, d: u64) -> u64 {
+    let (whole, rest) = (x / d, x % d);
+    if rest < d - rest {
+        whole
+    } else {
+        whole + 1
+    }
+}
+
+/// The lent outputs, and how far they are written: the next part starts at `start`, which has `value`.
+struct Parts<'a> {
+    from: &'a mut [u16],
+    to: &'a mut [u16],
+    wh: &'a mut [u64],
+    start: usize,
+    value: u64,
+    count: usize,
+}
+
+impl Parts<'_> {
+    fn add(&mut self, end: usize, value: u64) {
+        self.from[self.count] = self.start as u16;
+        self.to[self.count] = end as u16;
+        self.wh[self.count] = value - self.value;
+        self.start = end;
+        self.value = value;
+        self.count += 1;
+    }
+
+    /// The parts from the reading at which the next part starts to the next reading q.
+    fn interval(&mut self, weights: &[u32], marks: &[u8], counts: &[u64], q: usize) {
+        let (p, low, high) = (self.start, self.value, counts[q]);
+        let energy = high - low;
+        let z: u64 = weights[p..q].iter().map(|weight| *weight as u64).sum();
+        let mut sum = weights[p] as u64;
+        for k in p + 1..q {
+            if marks[k] != 0 {
+                self.add(k, low + nearest(energy * sum, z));
+            }
+            sum += weights[k] as u64;
+        }
+        self.add(q, high);
+    }
 }
 
 pub fn statement(
@@ -103,49 +173,27 @@ pub fn statement(
     wh: &mut [u64],
 ) -> (Answer, usize) {
     let n = weights.len();
-    if !fit(weights, marks, counts) || from.len() != n || to.len() != n || wh.len() != n {
+    if from.len() != n || to.len() != n || wh.len() != n {
         return (refused(3), 0);
     }
-    if !weights_sound(weights) || !marks_sound(marks, counts) {
-        return (refused(5), 0);
+    let number = check(weights, marks, counts);
+    if number != 0 {
+        return (refused(number), 0);
     }
-    let mut parts = 0;
-    let mut p = next_reading(marks, 0);
-    while p < n {
-        let (mut q, mut z) = (p + 1, weights[p] as u64);
-        while q < n && marks[q] < 2 {
-            z += weights[q] as u64;
-            q += 1;
-        }
-        if marks[q] < 2 {
-            break;
-        }
-        let energy = counts[q] - counts[p];
-        let (mut start, mut before, mut sum) = (p, 0, 0);
-        for k in p + 1..q {
-            sum += weights[k - 1] as u64;
-            if marks[k] != 0 {
-                let upto = (energy * sum + z / 2) / z;
-                from[parts] = start as u16;
-                to[parts] = k as u16;
-                wh[parts] = upto - before;
-                parts += 1;
-                start = k;
-                before = upto;
-            }
-        }
-        from[parts] = start as u16;
-        to[parts] = q as u16;
-        wh[parts] = energy - before;
-        parts += 1;
-        p = q;
+    from.fill(0);
+    to.fill(0);
+    wh.fill(0);
+    if count_readings(marks) < 2 {
+        return (refused(11), 0);
     }
-    for i in parts..n {
-        from[i] = 0;
-        to[i] = 0;
-        wh[i] = 0;
+    let first = next_reading(marks, 0);
+    let mut parts = Parts { from, to, wh, start: first, value: counts[first], count: 0 };
+    let mut q = next_reading(marks, first + 1);
+    while q <= n {
+        parts.interval(weights, marks, counts, q);
+        q = next_reading(marks, q + 1);
     }
-    (if parts == 0 { refused(11) } else { DONE }, parts)
+    (DONE, parts.count)
 }
 
 /// The file and the reader's own position.
@@ -249,7 +297,7 @@ impl Reader<'_> {
             if k > n {
                 return Err(refused_at(6, self.at - 2));
             }
-            marks[k] += 1;
+            marks[k] = if is_reading(marks[k]) { 3 } else { 1 };
             least = k + 1;
         }
         Ok(())
@@ -273,46 +321,65 @@ impl Reader<'_> {
         let mut means = [0; 1_099];
         let count = self.means(&mut means)?;
         let n = count - 3;
+        self::weights(profile, weekday, &means[..count], &mut weights[..n]);
         self.readings(n, marks, counts)?;
         self.cuts(n, marks)?;
         if self.at < self.file.len() {
             return Err(refused_at(13, self.at));
         }
-        self::weights(profile, weekday, &means[..count], &mut weights[..n]);
         Ok(n)
     }
+}
+
+fn clear(weights: &mut [u32], marks: &mut [u8], counts: &mut [u64]) {
+    weights.fill(0);
+    marks.fill(0);
+    counts.fill(0);
 }
 
 pub fn read(file: &[u8], weights: &mut [u32], marks: &mut [u8], counts: &mut [u64]) -> (Answer, usize) {
     if weights.len() != LONGEST || marks.len() != LONGEST + 1 || counts.len() != LONGEST + 1 {
         return (refused(3), 0);
     }
-    weights.fill(0);
-    marks.fill(0);
-    counts.fill(0);
+    clear(weights, marks, counts);
     match (Reader { file, at: 0 }).contents(weights, marks, counts) {
         Ok(n) => (DONE, n),
         Err(answer) => {
-            marks.fill(0);
-            counts.fill(0);
+            clear(weights, marks, counts);
             (answer, 0)
         }
     }
 }
 
-fn push_number(text: &mut Vec<u8>, mut number: u64, end: u8) {
-    let mut digits = [0; 20];
-    let mut at = 20;
-    loop {
-        at -= 1;
-        digits[at] = b'0' + (number % 10) as u8;
-        number /= 10;
-        if number == 0 {
-            break;
+/// A text in a buffer that is written once.
+struct Text {
+    bytes: [u8; 25_600],
+    length: usize,
+}
+
+impl Text {
+    fn word(&mut self, word: &[u8]) {
+        for byte in word {
+            self.bytes[self.length] = *byte;
+            self.length += 1;
         }
     }
-    text.extend_from_slice(&digits[at..]);
-    text.push(end);
+
+    /// First how many digits, then the digits from the last one on.
+    fn number(&mut self, number: u64) {
+        let (mut places, mut rest) = (1, number / 10);
+        while rest > 0 {
+            rest /= 10;
+            places += 1;
+        }
+        let (mut digits, mut at, mut rest) = ([0; 20], places, number);
+        while at > 0 {
+            at -= 1;
+            digits[at] = b'0' + (rest % 10) as u8;
+            rest /= 10;
+        }
+        self.word(&digits[..places]);
+    }
 }
 
 /// What the statement program prints.
@@ -325,23 +392,28 @@ pub fn program(file: &[u8]) -> Vec<u8> {
         let (marks, counts) = (&marks[..n + 1], &counts[..n + 1]);
         (answer, parts) = statement(&weights[..n], marks, counts, &mut from[..n], &mut to[..n], &mut wh[..n]);
     }
-    let mut text = Vec::new();
+    let mut text = Text { bytes: [0; 25_600], length: 0 };
     if answer != DONE {
-        text.extend_from_slice(b"refused ");
-        push_number(&mut text, answer.number as u64, b' ');
-        push_number(&mut text, answer.place as u64, b'\n');
-        return text;
+        text.word(b"refused ");
+        text.number(answer.number as u64);
+        text.word(b" ");
+        text.number(answer.place as u64);
+        text.word(b"\n");
+    } else {
+        text.word(b"parts ");
+        text.number(parts as u64);
+        text.word(b"\n");
+        for i in 0..parts {
+            text.number(from[i] as u64);
+            text.word(b" ");
+            text.number(to[i] as u64);
+            text.word(b" ");
+            text.number(wh[i]);
+            text.word(b"\n");
+        }
+        text.word(b"sum ");
+        text.number(wh[..parts].iter().sum());
+        text.word(b"\n");
     }
-    text.extend_from_slice(b"parts ");
-    push_number(&mut text, parts as u64, b'\n');
-    let mut sum = 0;
-    for i in 0..parts {
-        push_number(&mut text, from[i] as u64, b' ');
-        push_number(&mut text, to[i] as u64, b' ');
-        push_number(&mut text, wh[i], b'\n');
-        sum += wh[i];
-    }
-    text.extend_from_slice(b"sum ");
-    push_number(&mut text, sum, b'\n');
-    text
+    text.bytes[..text.length].to_vec()
 }

@@ -24,20 +24,17 @@ impl Root for Standard {
     }
 }
 
-/// Newton's iteration from (root + one) / 2 rounded up, which is never below the root.
+/// Newton's iteration from the mean of root and one, which is not below the square root of their product.
 pub struct Newton;
 
 impl Root for Newton {
     fn down(root: u64) -> u64 {
         let square = root * ONE;
-        let mut guess = (root + ONE).div_ceil(2);
-        loop {
-            let next = (guess + square / guess) / 2;
-            if next >= guess {
-                return guess;
-            }
-            guess = next;
+        let mut guess = (ONE + root) / 2;
+        while square < guess * guess {
+            guess = (guess + square / guess) / 2;
         }
+        guess
     }
 }
 

@@ -17,20 +17,20 @@ boundaries-requires c κs = search needs
 boundaries-requires-2 : tie.Need-boundaries-requires-2
 boundaries-requires-2 c κs = search needs
 
-slice-aggregate-account-statement : tie.Need-slice-aggregate-account-statement
-slice-aggregate-account-statement c =
+slice-aggregate-account-text : tie.Need-slice-aggregate-account-text
+slice-aggregate-account-text c =
     sym (length-take-le (c .before .before .before .days-of .result) (c .before .before .before .before .before .before .before .before .args .weights .now) (omega (arith, c .before .before .before .days-of .ensures)))
 
-slice-aggregate-account-statement-2 : tie.Need-slice-aggregate-account-statement-2
-slice-aggregate-account-statement-2 c =
+slice-aggregate-account-text-2 : tie.Need-slice-aggregate-account-text-2
+slice-aggregate-account-text-2 c =
     sym (length-take-le (c .before .before .before .boundaries .result) (c .before .before .before .before .before .before .before .before .before .args .marks .now) (omega (arith, c .before .before .before .boundaries .ensures)))
 
-slice-aggregate-account-statement-3 : tie.Need-slice-aggregate-account-statement-3
-slice-aggregate-account-statement-3 c =
+slice-aggregate-account-text-3 : tie.Need-slice-aggregate-account-text-3
+slice-aggregate-account-text-3 c =
     sym (length-take-le (c .before .before .before .boundaries2 .result) (c .before .before .before .before .before .before .before .before .before .before .args .counts .now) (omega (arith, c .before .before .before .boundaries2 .ensures)))
 
-account-statement-requires : tie.Need-account-statement-requires
-account-statement-requires c κs = search needs
+account-text-requires : tie.Need-account-text-requires
+account-text-requires c κs = search needs
 
 same-length : tie.Need-same-length
 same-length c = search needs
@@ -42,7 +42,7 @@ returns c =
     let m = c .before .before .before .before .before .before .before .before .boundaries in
     let k = c .before .before .before .before .before .before .before .boundaries2 in
     rw (take-least (a .days) (n .result) (a .weights .now) (n .ensures), take-least (a .days + 1) (m .result) (a .marks .now) (m .ensures), take-least (a .days + 1) (k .result) (a .counts .now) (k .ensures))
-    at (c .before .before .account-statement .ensures)
+    at (c .before .before .account-text .ensures)
 
 pub statement-spec : {M : Type 1} → statement M
 statement-spec =
@@ -51,9 +51,9 @@ statement-spec =
     days-of-requires
     boundaries-requires
     boundaries-requires-2
-    slice-aggregate-account-statement
-    slice-aggregate-account-statement-2
-    slice-aggregate-account-statement-3
-    account-statement-requires
+    slice-aggregate-account-text
+    slice-aggregate-account-text-2
+    slice-aggregate-account-text-3
+    account-text-requires
     same-length
     returns)

@@ -1,65 +1,92 @@
-//! Times the calls of sections "Profile value", "Account and its calls" and "Case file" in one run, as ratios.
+//! Times the calls of sections "Profile value", "Account and its calls" and "Case file" in one run, as ratios (docs/BENCHMARK.md).
 //!
-//! bench [STATEMENT-PROGRAM], after `cargo build --release` of the workspace: (a) is the plain version, (b) the same algorithms, and the proved library if it is linked.
+//! bench [PROGRAM]: (a) is the plain version, (b) the same algorithms in Rust; PROGRAM is the proved statement program.
 
 use compare::library::{Library, PLAIN, SAME};
+use compare::proved::Proved;
 use model::{Mean, ProfileNumber};
 use std::hint::black_box;
 use std::io::Write;
+use std::path::{Path, PathBuf};
 use std::process::{Command, Stdio};
-use std::time::Instant;
 
-const ROUNDS: usize = 31;
+/// Rounds of a row, and the least nanoseconds that the quickest version runs in a round.
+const ROUNDS: usize = 101;
+const ROUND: u64 = 1_000_000;
+const LIBRARIES: [&dyn Library; 3] = [&PLAIN, &SAME, &Proved];
 
-fn libraries() -> Vec<Box<dyn Library>> {
-    vec![
-        Box::new(PLAIN),
-        Box::new(SAME),
-        #[cfg(feature = "linked")]
-        Box::new(compare::proved::Proved),
-    ]
+#[repr(C)]
+#[derive(Default)]
+struct Time {
+    seconds: i64,
+    part: i64,
 }
 
-/// The median nanoseconds of one call for each runner, measured in turns so that all meet the same machine.
-fn medians(runners: &mut [Box<dyn FnMut() + '_>]) -> Vec<f64> {
-    let mut calls = 1;
-    loop {
-        let start = Instant::now();
-        (0..calls).for_each(|_| runners[0]());
-        if start.elapsed().as_micros() > 2_000 {
-            break;
-        }
-        calls *= 2;
-    }
+/// What the system says of the children that have ended: the time they ran themselves, the time the system ran for them, and counts.
+#[repr(C)]
+#[derive(Default)]
+struct Usage {
+    own: Time,
+    system: Time,
+    counts: [i64; 14],
+}
+
+extern "C" {
+    fn clock_gettime(clock: i32, time: *mut Time) -> i32;
+    fn getrusage(who: i32, usage: *mut Usage) -> i32;
+}
+
+/// Nanoseconds that this thread has run; time in which others have the processor does not count.
+fn thread_time() -> u64 {
+    const THREAD: i32 = 3;
+    let mut time = Time::default();
+    assert_eq!(unsafe { clock_gettime(THREAD, &mut time) }, 0);
+    time.seconds as u64 * 1_000_000_000 + time.part as u64
+}
+
+/// Nanoseconds that the processes started here, and ended, have run, the system's work for them included.
+fn children_time() -> u64 {
+    const CHILDREN: i32 = -1;
+    let mut usage = Usage::default();
+    assert_eq!(unsafe { getrusage(CHILDREN, &mut usage) }, 0);
+    let micros = |time: &Time| time.seconds as u64 * 1_000_000 + time.part as u64;
+    black_box(usage.counts);
+    1_000 * (micros(&usage.own) + micros(&usage.system))
+}
+
+type Runner<'a> = Box<dyn FnMut() + 'a>;
+
+/// The median nanoseconds of one call of each runner, measured in turns so that all meet the same machine.
+fn medians(clock: fn() -> u64, rounds: usize, runners: &mut [Runner]) -> Vec<f64> {
+    let timed = |runner: &mut Runner, calls: u64| {
+        let start = clock();
+        (0..calls).for_each(|_| runner());
+        clock() - start
+    };
+    let calls: Vec<u64> = runners.iter_mut().map(|runner| ROUND.div_ceil(timed(runner, 8).max(8) / 8)).collect();
     let mut times = vec![Vec::new(); runners.len()];
-    for _ in 0..ROUNDS {
-        for (runner, times) in runners.iter_mut().zip(&mut times) {
-            let start = Instant::now();
-            (0..calls).for_each(|_| runner());
-            times.push(start.elapsed().as_nanos() as f64 / calls as f64);
+    for _ in 0..rounds {
+        for (i, runner) in runners.iter_mut().enumerate() {
+            times[i].push(timed(runner, calls[i]) as f64 / calls[i] as f64);
         }
     }
-    for times in &mut times {
-        times.sort_by(f64::total_cmp);
-    }
-    times.iter().map(|times| times[ROUNDS / 2]).collect()
+    times.iter_mut().for_each(|times| times.sort_by(f64::total_cmp));
+    times.iter().map(|times| times[rounds / 2]).collect()
 }
 
+/// One row of the table: microseconds of (a), (b) and the proved version, and the ratios.
 fn print(what: &str, times: &[f64]) {
-    print!("{what:34}");
-    for time in times {
-        print!(" {:>10.2} us", time / 1_000.0);
+    print!("| {what} |");
+    times.iter().for_each(|time| print!(" {:.2} |", time / 1_000.0));
+    match times {
+        [a, b, proved] => println!(" {:.2} | {:.2} |", proved / a, proved / b),
+        _ => println!(" | | |"),
     }
-    print!("   (b)/(a) {:.2}", times[1] / times[0]);
-    if let Some(proved) = times.get(2) {
-        print!("   proved/(a) {:.2}   proved/(b) {:.2}", proved / times[0], proved / times[1]);
-    }
-    println!();
 }
 
-/// Three years of daily means: a yearly wave with some weather on it.
-fn means(n: usize) -> Vec<Mean> {
-    (0..n + 3)
+/// Daily means of a span from day `first` on: a yearly wave with some weather on it.
+fn means(first: usize, n: usize) -> Vec<Mean> {
+    (first..first + n + 3)
         .map(|k| {
             let year = (k % 365) as i64;
             let wave = (year - 182).abs() * 12 - 1_100;
@@ -75,10 +102,10 @@ struct Account {
     counts: Vec<u64>,
 }
 
-/// An account with a reading at both ends and every `every` days, and these cuts.
-fn account(n: usize, every: usize, cuts: &[usize]) -> Account {
+/// An account from day `first` on with a reading at both ends and every `every` days, and these cuts.
+fn account(first: usize, n: usize, every: usize, cuts: &[usize]) -> Account {
     let mut weights = vec![0; n];
-    PLAIN.weights(0, 0, &means(n), &mut weights);
+    PLAIN.weights(0, 0, &means(first, n), &mut weights);
     let (mut marks, mut counts) = (vec![0; n + 1], vec![0; n + 1]);
     for k in (0..=n).filter(|k| *k == n || k % every == 0) {
         marks[k] = 2;
@@ -88,123 +115,132 @@ fn account(n: usize, every: usize, cuts: &[usize]) -> Account {
     Account { weights, marks, counts }
 }
 
-fn time_weights(profile: ProfileNumber, n: usize) -> Vec<f64> {
-    let (libraries, means) = (libraries(), means(n));
-    let mut runners: Vec<Box<dyn FnMut()>> = Vec::new();
-    for library in &libraries {
-        let (means, mut out) = (&means, vec![0; n]);
-        runners.push(Box::new(move || {
-            black_box(library.weights(black_box(profile), 3, black_box(means), &mut out));
-        }));
-    }
-    medians(&mut runners)
+fn run_weights(library: &'static dyn Library, profile: ProfileNumber, first: usize, n: usize) -> Runner<'static> {
+    let (means, mut out) = (means(first, n), vec![0; n]);
+    Box::new(move || {
+        let answer = library.weights(black_box(profile), 3, black_box(&means), &mut out);
+        assert_eq!(black_box(answer).number, 0);
+    })
 }
 
-fn time_reading(n: usize) -> Vec<f64> {
-    let libraries = libraries();
+/// A reading that is accepted, in the middle of an account with a reading every `every` days; it is taken away again.
+fn run_reading(library: &'static dyn Library, first: usize, n: usize, every: usize) -> Runner<'static> {
     let k = n / 2 + 1;
-    let mut runners: Vec<Box<dyn FnMut()>> = Vec::new();
-    for library in &libraries {
-        let Account { weights, mut marks, mut counts } = account(n, 30, &[1, 5, n - 1]);
+    let Account { weights, mut marks, mut counts } = account(first, n, every, &[1, 5, n - 1]);
+    marks[k] &= 1;
+    counts[k] = 0;
+    let count = 1_000_000 + 1_700_000 * k as u64;
+    Box::new(move || {
+        let answer = library.reading(black_box(&weights), &mut marks, &mut counts, black_box(k), count);
+        assert_eq!(black_box(answer).number, 0);
         marks[k] &= 1;
-        runners.push(Box::new(move || {
-            let count = 1_000_000 + 1_700_000 * k as u64;
-            let answer = library.reading(black_box(&weights), &mut marks, &mut counts, black_box(k), count);
-            assert_eq!(answer.number, 0);
-            marks[k] &= 1;
-            counts[k] = 0;
-        }));
-    }
-    medians(&mut runners)
+        counts[k] = 0;
+    })
 }
 
-fn time_statement(n: usize, every: usize, cuts: &[usize]) -> Vec<f64> {
-    let libraries = libraries();
-    let mut runners: Vec<Box<dyn FnMut()>> = Vec::new();
-    for library in &libraries {
-        let Account { weights, marks, counts } = account(n, every, cuts);
-        let (mut from, mut to, mut wh) = (vec![0; n], vec![0; n], vec![0; n]);
-        runners.push(Box::new(move || {
-            let (weights, marks) = (black_box(&weights), black_box(&marks));
-            let answer = library.statement(weights, marks, &counts, &mut from, &mut to, &mut wh);
-            assert_eq!(black_box(answer).0.number, 0);
-        }));
-    }
-    medians(&mut runners)
+/// A statement between readings at both ends.
+fn run_statement(library: &'static dyn Library, first: usize, n: usize, cuts: &[usize]) -> Runner<'static> {
+    let Account { weights, marks, counts } = account(first, n, n, cuts);
+    let (mut from, mut to, mut wh) = (vec![0; n], vec![0; n], vec![0; n]);
+    Box::new(move || {
+        let (weights, marks) = (black_box(&weights), black_box(&marks));
+        let answer = library.statement(weights, marks, &counts, &mut from, &mut to, &mut wh);
+        assert_eq!(black_box(answer).0.number, 0);
+    })
 }
 
 /// A file of n days with a reading and a cut at every boundary: the longest one for 1,096 days.
-fn file(n: usize) -> Vec<u8> {
+fn file(first: usize, n: usize) -> Vec<u8> {
     let mut file = vec![5, 3];
-    let count = |file: &mut Vec<u8>, items: usize| file.extend((items as u16).to_le_bytes());
-    count(&mut file, n + 3);
-    means(n).iter().for_each(|mean| file.extend((*mean as i16).to_le_bytes()));
-    count(&mut file, n + 1);
+    let number = |file: &mut Vec<u8>, number: usize| file.extend((number as u16).to_le_bytes());
+    number(&mut file, n + 3);
+    means(first, n).iter().for_each(|mean| file.extend(mean.to_le_bytes()));
+    number(&mut file, n + 1);
     for k in 0..=n {
-        count(&mut file, k);
+        number(&mut file, k);
         file.extend((1_000_000 + 1_700_000 * k as u64).to_le_bytes());
     }
-    count(&mut file, n + 1);
-    (0..=n).for_each(|k| count(&mut file, k));
+    number(&mut file, n + 1);
+    (0..=n).for_each(|k| number(&mut file, k));
     file
 }
 
-fn time_read(n: usize) -> Vec<f64> {
-    let (libraries, file) = (libraries(), file(n));
-    let mut runners: Vec<Box<dyn FnMut()>> = Vec::new();
-    for library in &libraries {
-        let (file, mut weights, mut marks, mut counts) = (&file, vec![0; 1_096], vec![0; 1_097], vec![0; 1_097]);
-        runners.push(Box::new(move || {
-            let answer = library.read(black_box(file), &mut weights, &mut marks, &mut counts);
-            assert_eq!(black_box(answer).0.number, 0);
-        }));
-    }
-    medians(&mut runners)
+fn run_read(library: &'static dyn Library, first: usize, n: usize) -> Runner<'static> {
+    let (file, mut weights, mut marks, mut counts) = (file(first, n), vec![0; 1_096], vec![0; 1_097], vec![0; 1_097]);
+    Box::new(move || {
+        let answer = library.read(black_box(&file), &mut weights, &mut marks, &mut counts);
+        assert_eq!(black_box(answer).0.number, 0);
+    })
 }
 
-/// One run of a program, the file on its standard input.
-fn run(program: &std::path::Path, argument: Option<&str>, file: &[u8]) {
-    let mut command = Command::new(program);
-    command.args(argument).stdin(Stdio::piped()).stdout(Stdio::piped());
-    let mut child = command.spawn().expect("the program starts");
-    child.stdin.take().unwrap().write_all(file).unwrap();
-    let text = child.wait_with_output().unwrap().stdout;
-    assert!(text.starts_with(b"parts 1096\n"));
-}
-
-fn time_program(proved: Option<String>) -> Vec<f64> {
-    let file = file(1_096);
+/// One run of a program, the longest example on its standard input.
+fn run_program(program: PathBuf, argument: Option<&'static str>) -> Runner<'static> {
+    let file = include_bytes!("../../../../examples/cases/longest.case");
     assert_eq!(file.len(), 15_370);
+    Box::new(move || {
+        let mut command = Command::new(&program);
+        command.args(argument).stdin(Stdio::piped()).stdout(Stdio::piped());
+        let mut child = command.spawn().expect("the program starts");
+        child.stdin.take().unwrap().write_all(file).unwrap();
+        let text = child.wait_with_output().unwrap().stdout;
+        assert!(text.starts_with(b"parts 1096\n"));
+    })
+}
+
+fn three(what: &str, runner: impl Fn(&'static dyn Library) -> Runner<'static>) {
+    let mut runners: Vec<Runner> = LIBRARIES.iter().map(|library| runner(*library)).collect();
+    print(what, &medians(thread_time, ROUNDS, &mut runners));
+}
+
+fn programs(proved: &Path) {
     let straight = std::env::current_exe().unwrap().with_file_name("statement");
-    let mut programs = vec![(straight.clone(), Some("plain")), (straight, Some("same"))];
-    programs.extend(proved.map(|program| (program.into(), None)));
-    let mut runners: Vec<Box<dyn FnMut()>> = Vec::new();
-    for (program, argument) in programs {
-        let file = &file;
-        runners.push(Box::new(move || run(&program, argument, file)));
+    let mut runners = vec![run_program(straight.clone(), Some("plain")), run_program(straight, Some("same"))];
+    if proved.exists() {
+        runners.push(run_program(proved.to_path_buf(), None));
     }
-    medians(&mut runners)
+    print("whole program, examples/cases/longest.case", &medians(children_time, ROUNDS, &mut runners));
+    if !proved.exists() {
+        println!("(no program {}: that figure is left out)", proved.display());
+    }
+}
+
+/// The proved version on the same 1,096 days as eight spans of 137, four of 274, two of 548 or one: the time of one span, all in turns,
+/// and the last over eight times the first, which is 1 if growth is linear.
+fn growth(what: &str, runner: impl Fn(usize, usize) -> Runner<'static>) {
+    let spans = |n: usize| -> Runner<'static> {
+        let mut runners: Vec<Runner> = (0..1_096 / n).map(|span| runner(span * n, n)).collect();
+        let mut next = 0;
+        Box::new(move || {
+            runners[next]();
+            next = (next + 1) % runners.len();
+        })
+    };
+    let mut runners: Vec<Runner> = [137, 274, 548, 1_096].into_iter().map(spans).collect();
+    let times = medians(thread_time, ROUNDS, &mut runners);
+    print!("| {what} |");
+    times.iter().for_each(|time| print!(" {:.2} |", time / 1_000.0));
+    println!(" {:.2} |", times[3] / (8.0 * times[0]));
 }
 
 fn main() {
-    let names: Vec<&str> = libraries().iter().map(|library| library.name()).collect();
-    println!("medians of {ROUNDS} rounds, in turns: {} ((a) plain, (b) same)", names.join(", "));
+    let program = std::env::args().nth(1).unwrap_or("target/bin/arvadush".to_string());
+    println!("| microseconds, medians of {ROUNDS} rounds | (a) | (b) | proved | proved/(a) | proved/(b) |");
+    println!("|---|---|---|---|---|---|");
     for profile in 0..10 {
-        print(&format!("weights, 1,096 days, profile {profile}"), &time_weights(profile, 1_096));
+        three(&format!("weights, 1,096 days, profile {profile}"), |library| run_weights(library, profile, 0, 1_096));
     }
-    let every: Vec<usize> = (1..1_096).collect();
-    print("reading, 1,096 days", &time_reading(1_096));
-    print("statement, a cut at every boundary", &time_statement(1_096, 1_096, &every));
-    print("statement, three cuts", &time_statement(1_096, 1_096, &[200, 500, 900]));
-    print("statement, readings every 30 days", &time_statement(1_096, 30, &every));
-    print("case file, the longest", &time_read(1_096));
-    print("whole program, the longest file", &time_program(std::env::args().nth(1)));
-    println!("growth with the days:");
-    for n in [137, 274, 548, 1_096] {
-        let every: Vec<usize> = (1..n).collect();
-        print(&format!("weights, {n} days, profile 0"), &time_weights(0, n));
-        print(&format!("reading, {n} days"), &time_reading(n));
-        print(&format!("statement, {n} days, every cut"), &time_statement(n, n, &every));
-        print(&format!("case file, {n} days"), &time_read(n));
-    }
+    let cuts = |n: usize| (1..n).collect::<Vec<usize>>();
+    three("reading, 1,096 days, readings every 30 days", |library| run_reading(library, 0, 1_096, 30));
+    three("reading, 1,096 days, readings at both ends", |library| run_reading(library, 0, 1_096, 1_096));
+    three("statement, a cut at every boundary", |library| run_statement(library, 0, 1_096, &cuts(1_096)));
+    three("statement, three cuts", |library| run_statement(library, 0, 1_096, &[200, 500, 900]));
+    three("case file, the longest", |library| run_read(library, 0, 1_096));
+    programs(Path::new(&program));
+    println!("\n| proved, microseconds | 137 days | 274 | 548 | 1,096 | 1,096 days over 8 × 137 days |");
+    println!("|---|---|---|---|---|---|");
+    growth("weights, profile 0", |first, n| run_weights(&Proved, 0, first, n));
+    growth("reading", |first, n| run_reading(&Proved, first, n, 30));
+    growth("statement, a cut at every boundary", |first, n| run_statement(&Proved, first, n, &cuts(n)));
+    growth("statement, three cuts", |first, n| run_statement(&Proved, first, n, &[n / 5, n / 2, n - n / 5]));
+    growth("case file", |first, n| run_read(&Proved, first, n));
 }

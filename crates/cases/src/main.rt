@@ -1,0 +1,54 @@
+// The example files (Case file): each file that an argument names, its name and then the text that `arvadush` prints for it.
+use libc::STDOUT_FILENO;
+use profile::Profile;
+
+const FILE: usize = 16_384;
+
+const TEXT: usize = 73_728;
+
+// The text of the file that can be read here.
+fn print_case(fd: i32) {
+    let mut file = [0u8; FILE];
+    let length = io::read_full(fd, &mut file);
+    let mut weights = [0u32; Profile::SPAN];
+    let mut marks = [0u8; Profile::SPAN + 1];
+    let mut counts = [0u64; Profile::SPAN + 1];
+    let mut text = [0u8; TEXT];
+    let n = report::case_text(
+        &file[..length],
+        &mut weights,
+        &mut marks,
+        &mut counts,
+        &mut text,
+    );
+    io::write_all(STDOUT_FILENO, &text[..n]);
+}
+
+// The name of a file, and its text.
+fn print_named(path: &[u8]) {
+    io::write_all(STDOUT_FILENO, path);
+    io::write_all(STDOUT_FILENO, b"\n");
+    let fd = os::open_read(path);
+    if fd < 0 {
+        os::fail(path);
+        return;
+    }
+    print_case(fd);
+    libc::close(fd);
+}
+
+// The file that an argument names.
+fn print_arg(i: usize) {
+    let mut path = io::buffer();
+    let n = os::arg(i, &mut path);
+    print_named(&path[..n]);
+}
+
+fn main() {
+    let count = os::arg_count();
+    let mut i = 1;
+    while i < count {
+        print_arg(i);
+        i += 1;
+    }
+}

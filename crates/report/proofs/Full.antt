@@ -1,0 +1,66 @@
+-- A statement that is given is printed in full (Case file): none of the ways in which there could be no text arises. Assumes nothing.
+use Prim.Native.Nat.{ℕ, zero, suc, _+_, _-_, _≤_, _<_}
+use mathlib.Core.Path.{_≡_, refl, sym, ap, _∙_}
+use mathlib.Core.Bool.{Bool, true, false, not}
+use mathlib.Core.List.{List, _++_, map}
+use native.Mathlib.Omega.{arith}
+use native.Mathlib.Nat.{not-suc-le-zero}
+use native.Mathlib.Decide.{decLt}
+use borrow.Author.Tests.{le-ltb}
+use lib.Dec.{ltb}
+use lib.ListN.{length, getD, replicate, length-append, length-map}
+use Rattle.profile.specs.Limits.{spanMost}
+use Rattle.account.specs.Boundaries.{some, howMany}
+use Rattle.account.specs.Account.{Account, days, shown, energyMost}
+use Rattle.account.proofs.Sound.{fit, sound-parts}
+use Rattle.account.proofs.Rows.{row-none, checked, rows-through}
+use Rattle.statement.specs.Parts.{Part, Outputs, padded, parts, written}
+use Rattle.statement.specs.Shares.{total}
+use Rattle.statement.specs.Call.{statementRows}
+use Rattle.statement.proofs.Order.{fair-of-sound}
+use Rattle.statement.proofs.Parts.{parts-fit}
+use Rattle.statement.proofs.Facts.{sums-up}
+use Rattle.layout.specs.Text.{noStatement, partsText}
+use Rattle.report.specs.Report.{accountNumber, accountText, PrintedInFull}
+
+-- a part is no more than the total
+total-grows : (o : Outputs) (m i : ℕ) → i < m → getD (o .wh) i 0 ≤ total o m
+unfolding total
+total-grows o zero i h = absurd (not-suc-le-zero h)
+total-grows o (suc m) i h = by (decLt i m) (total-grows o m i)
+  where
+    by : Dec (i < m) → (i < m → getD (o .wh) i 0 ≤ total o m) → getD (o .wh) i 0 ≤ total o m + getD (o .wh) m 0
+    by (yes l) more = omega (arith, more l)
+    by (no n) more =
+        let same : i ≡ m = omega arith in
+        omega (arith, ap (λ (k : ℕ). getD (o .wh) k 0) same)
+
+none-below : (p : ℕ → Bool) (m : ℕ) → ((i : ℕ) → i < m → p i ≡ false) → some p m ≡ false
+unfolding some
+none-below p zero all = refl
+none-below p (suc m) all = rw (none-below p m (λ i h. all i (omega arith)), all m (omega arith)) refl
+
+long-enough : (f : Part → ℕ) (n : ℕ) (ps : List Part) → ltb (length (padded n (map f ps))) (length ps) ≡ false
+long-enough f n ps =
+    le-ltb (length (padded n (map f ps))) (length ps)
+    (omega (arith, length-append (map f ps) (replicate (n - length (map f ps)) 0), length-map ps f))
+
+pub in-full : PrintedInFull
+in-full a number =
+    let ok = checked a (statementRows (days a) (shown a)) number in
+    let two = row-none (ltb (howMany (shown a .readings .at) (suc (days a))) 2) 11 0 (omega arith) (sym (rows-through a (statementRows (days a) (shown a)) ok) ∙ number) .0 in
+    let ps = parts (a .weights) (shown a) in
+    let o = written (days a) ps in
+    let sum = sums-up (a .weights) (shown a) (fair-of-sound a (ok .sound)) two in
+    let few = parts-fit (a .weights) (shown a) (days a) in
+    let small : some (λ i. ltb energyMost (getD (o .wh) i 0)) (length ps) ≡ false =
+    none-below _ (length ps) (λ i h. le-ltb energyMost (getD (o .wh) i 0) (omega (arith, total-grows o (length ps) i h, sum, sound-parts a (ok .sound) .energy))) in
+    let is : noStatement o (length ps) ≡ false =
+    simp (
+      le-ltb spanMost (length ps) (omega (arith, few, fit a (ok .fits) .most)),
+      long-enough (λ (p : Part). p .from) (days a) ps,
+      long-enough (λ (p : Part). p .to) (days a) ps,
+      long-enough (λ (p : Part). p .wh) (days a) ps,
+      small,
+    ) in
+    rw (number, is) (ap (partsText o (length ps)) sum)

@@ -1,0 +1,4 @@
+mod Texts
+mod Taken
+pub mod Fits
+pub mod Full
