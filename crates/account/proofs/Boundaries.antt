@@ -29,22 +29,6 @@ neither false b h = (refl, h)
 pub below-suc {ℓ} : (P : ℕ → Type ℓ) (m : ℕ) → ((k : ℕ) → k < m → P k) → P m → (k : ℕ) → k < suc m → P k
 below-suc P m all here k h = ⊎-elim (λ e. subst P (sym e) here) (λ lt. all k lt) (eq-or-lt-of-le (le-of-suc-le-suc h))
 
-pub and-left : (a b : Bool) → a && b ≡ true → a ≡ true
-and-left true b h = refl
-and-left false b h = h
-
-pub and-right : (a b : Bool) → a && b ≡ true → b ≡ true
-and-right true b h = h
-and-right false b h = cc
-
-pub or-left : (a b : Bool) → a || b ≡ false → a ≡ false
-or-left true b h = h
-or-left false b h = refl
-
-pub or-right : (a b : Bool) → a || b ≡ false → b ≡ false
-or-right true b h = cc
-or-right false b h = h
-
 -- k is the first boundary at which p holds, and lies below m
 pub record IsFirst (p : ℕ → Bool) (m k : ℕ) : Type 0 where
   pub below : k < m
@@ -67,6 +51,11 @@ module _ (p : ℕ → Bool) where
   unfolding some
   none-at zero h k lt = absurd (omega arith)
   none-at (suc m) h k lt = let b = neither (some p m) (p m) h in below-suc (λ j. p j ≡ false) m (none-at m (b .0)) (b .1) k lt
+
+  pub none-is : (m : ℕ) → ((k : ℕ) → k < m → p k ≡ false) → some p m ≡ false
+  unfolding some
+  none-is zero all = refl
+  none-is (suc m) all = rw (none-is m (λ k h. all k (omega arith)), all m (omega arith)) refl
 
   -- a boundary below m at which p holds
   pub found : (m : ℕ) → 0 < howMany p m → (k : ℕ) × (k < m) × (p k ≡ true)
@@ -169,7 +158,7 @@ module _ (p : ℕ → Bool) where
   pub first-none : (m : ℕ) → some p m ≡ false → first p m ≡ m
   unfolding some first
   first-none zero e = refl
-  first-none (suc m) e = rw (or-left (some p m) (p m) e, or-right (some p m) (p m) e)
+  first-none (suc m) e = rw (neither (some p m) (p m) e .0, neither (some p m) (p m) e .1)
 
   pub first-at : (m k : ℕ) → k < m → some p k ≡ false → p k ≡ true → first p m ≡ k
   first-at m k l e h = first-is (record { below = l; holds = h; none-before = none-at k e })
@@ -195,7 +184,7 @@ module _ (p : ℕ → Bool) where
   some-less (suc m) k l e =
       ⊎-elim
       (λ q. subst (λ (j : ℕ). some p j ≡ false) (sym q) e)
-      (λ s. some-less m k (le-of-suc-le-suc s) (or-left (some p m) (p m) e))
+      (λ s. some-less m k (le-of-suc-le-suc s) (neither (some p m) (p m) e .0))
       (eq-or-lt-of-le l)
 
   first-by : (m k : ℕ) (b c : Bool) → some p m ≡ b → p m ≡ c → (k ≤ first p m → some p k ≡ false) → k ≤ cond b (first p m) (cond c m (suc m)) → some p k ≡ false

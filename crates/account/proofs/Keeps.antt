@@ -10,7 +10,8 @@ use native.Mathlib.Omega.{arith}
 use Rattle.account.specs.Boundaries.{every}
 use Rattle.account.specs.Stands.{Stands, nothing, put, withReading, withoutReading, lastLessFirst}
 use Rattle.account.specs.Account.{Account, account, shown, days, unfit, sound, goodWeights, goodMarks, zeroCounts, energyMost, markOf}
-use Rattle.account.specs.Table.{row, outOfOrder, tooMuch, openNumber, readingRows, withdrawRows, cutRows, uncutRows}
+use Rattle.profile.specs.Rows.{row}
+use Rattle.account.specs.Table.{outOfOrder, tooMuch, openNumber, readingRows, withdrawRows, cutRows, uncutRows}
 use Rattle.account.specs.Calls.{cleared, readingPut, readingTaken, cutPut, cutTaken}
 use Rattle.account.proofs.Boundaries.{clash, every-at}
 use Rattle.account.proofs.Sound.{fit, Sound, sound-parts}

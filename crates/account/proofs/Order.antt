@@ -8,7 +8,7 @@ use borrow.Author.Tests.{le-leb, lt-leb, eqb-true}
 use lib.Dec.{leb, eqb, leb·zero}
 use Rattle.account.specs.Boundaries.{every, last}
 use Rattle.account.specs.Stands.{Readings, neverFalling}
-use Rattle.account.proofs.Boundaries.{and-left, and-right}
+use Rattle.account.proofs.Boundaries.{both}
 
 -- "zero without a reading", at k
 abbrev pub zeroAt : Readings → ℕ → Bool
@@ -29,7 +29,7 @@ module _ (r : Readings) where
   carried-below zero z = pick (r .at 0) 0 0 0 (λ e. sym (eqb-true _ 0 (rw e at z)))
   carried-below (suc m) z =
       pick (r .at (suc m)) (suc m) (last (r .at) (suc m)) (carried r (suc m))
-      (λ e. carried-below m (and-left (every (zeroAt r) (suc m)) (zeroAt r (suc m)) z))
+      (λ e. carried-below m (both (every (zeroAt r) (suc m)) (zeroAt r (suc m)) z .0))
 
   -- at a reading, the test with the count carried is that of `neverFalling`
   same-test : (k : ℕ) → every (zeroAt r) k ≡ true → leb (r .count (last (r .at) k)) (r .count k) ≡ leb (carried r k) (r .count k)

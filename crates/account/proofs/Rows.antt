@@ -8,7 +8,8 @@ use lib.Dec.{leb, ltb, eqb, lit<}
 use lib.ListN.{length}
 use Rattle.account.specs.Account as accounts
 use Rattle.account.specs.Account.{Account, days, shown, unfit, sound, goodWeights, energyMost}
-use Rattle.account.specs.Table.{row, accountRows}
+use Rattle.profile.specs.Rows.{row}
+use Rattle.account.specs.Table.{accountRows}
 use Rattle.account.specs.Slices.{Fit, readsAt, countAt, spread, goodBoundaries, boundaryRows, nextRow}
 use Rattle.account.proofs.Sound.{fit}
 use Rattle.account.proofs.Spread.{spread-is}
@@ -47,7 +48,7 @@ module _ (a : Account) (f : Fit a) (x : ℕ) (is : x ≡ spread (readsAt (a .mar
 pub rows-refuse : (a : Account) (n rest : ℕ) → n ≡ accountRows a 0 → (n ≡ 0 → ⊥) → n ≡ accountRows a rest
 rows-refuse a n rest is some = is ∙ go (unfit a) (sound a) (λ e. some (is ∙ e))
   where
-    go : (u s : Bool) → (row u 3 (row (not s) 5 0) ≡ 0 → ⊥) → row u 3 (row (not s) 5 0) ≡ row u 3 (row (not s) 5 rest)
+    go : (u s : Bool) → (_≡_ {A = ℕ} (row u 3 (row (not s) 5 0)) 0 → ⊥) → row u 3 (row (not s) 5 0) ≡ row u 3 (row (not s) 5 rest)
     go true s some = refl
     go false true some = absurd (some refl)
     go false false some = refl
@@ -55,7 +56,7 @@ rows-refuse a n rest is some = is ∙ go (unfit a) (sound a) (λ e. some (is ∙
 pub rows-pass : (a : Account) (n : ℕ) → n ≡ accountRows a 0 → (n ≡ 3 → ⊥) → (n ≡ 5 → ⊥) → n ≡ 0
 rows-pass a n is no3 no5 = is ∙ go (unfit a) (sound a) (λ e. no3 (is ∙ e)) (λ e. no5 (is ∙ e))
   where
-    go : (u s : Bool) → (row u 3 (row (not s) 5 0) ≡ 3 → ⊥) → (row u 3 (row (not s) 5 0) ≡ 5 → ⊥) → row u 3 (row (not s) 5 0) ≡ 0
+    go : (u s : Bool) → (_≡_ {A = ℕ} (row u 3 (row (not s) 5 0)) 3 → ⊥) → (_≡_ {A = ℕ} (row u 3 (row (not s) 5 0)) 5 → ⊥) → _≡_ {A = ℕ} (row u 3 (row (not s) 5 0)) 0
     go true s no3 no5 = absurd (no3 refl)
     go false true no3 no5 = refl
     go false false no3 no5 = absurd (no5 refl)
@@ -103,7 +104,7 @@ module _ (a : Account) (k : ℕ) where
   pub boundary-refuses : (n rest : ℕ) → n ≡ boundaryRows a k 0 → (n ≡ 0 → ⊥) → n ≡ boundaryRows a k rest
   boundary-refuses n rest is some = is ∙ go (unfit a) (accounts.sound a) (ltb (days a) k) (λ e. some (is ∙ e))
     where
-      go : (u s l : Bool) → (row u 3 (row (not s) 5 (row l 6 0)) ≡ 0 → ⊥) → row u 3 (row (not s) 5 (row l 6 0)) ≡ row u 3 (row (not s) 5 (row l 6 rest))
+      go : (u s l : Bool) → (_≡_ {A = ℕ} (row u 3 (row (not s) 5 (row l 6 0))) 0 → ⊥) → row u 3 (row (not s) 5 (row l 6 0)) ≡ row u 3 (row (not s) 5 (row l 6 rest))
       go true s l some = refl
       go false false l some = refl
       go false true true some = refl

@@ -11,21 +11,22 @@ use Rattle.profile.specs.Limits.{weightLeast, weightMost, spanMost}
 use Rattle.account.specs.Stands.{neverFalling, lastLessFirst}
 use Rattle.account.specs.Account.{Account, days, shown, badSpan, unfit, sound, goodWeight, goodWeights, goodMarks, zeroCounts, marksReading, energyMost}
 use Rattle.account.specs.Slices.{Fit}
-use Rattle.account.specs.Table.{row, accountRows}
-use Rattle.account.proofs.Boundaries.{and-left, and-right, or-left, or-right, every-at}
+use Rattle.profile.specs.Rows.{row}
+use Rattle.account.specs.Table.{accountRows}
+use Rattle.account.proofs.Boundaries.{both, neither, every-at}
 
 pub fit : (a : Account) → unfit a ≡ false → Fit a
 fit a h =
     let n = days a in
     let m = not (eqb (length (a .marks)) (n + 1)) in
     let c = not (eqb (length (a .counts)) (n + 1)) in
-    let rest = or-left (badSpan n || m) c h in
-    let span = not-false (leb 1 n && leb n spanMost) (or-left (badSpan n) m rest) in
+    let rest = neither (badSpan n || m) c h .0 in
+    let span = not-false (leb 1 n && leb n spanMost) (neither (badSpan n) m rest .0) in
     record {
-      least = leb-true 1 n (and-left (leb 1 n) (leb n spanMost) span);
-      most = leb-true n spanMost (and-right (leb 1 n) (leb n spanMost) span);
-      marks = eqb-true _ _ (not-false _ (or-right (badSpan n) m rest));
-      counts = eqb-true _ _ (not-false _ (or-right (badSpan n || m) c h));
+      least = leb-true 1 n (both (leb 1 n) (leb n spanMost) span .0);
+      most = leb-true n spanMost (both (leb 1 n) (leb n spanMost) span .1);
+      marks = eqb-true _ _ (not-false _ (neither (badSpan n) m rest .1));
+      counts = eqb-true _ _ (not-false _ (neither (badSpan n || m) c h .1));
     }
 
 -- the five parts of soundness
@@ -43,29 +44,25 @@ sound-parts a h =
     let z = zeroCounts a in
     let o = neverFalling (shown a .readings) (suc (days a)) in
     let e = leb (lastLessFirst (days a) (shown a .readings)) energyMost in
-    let h4 = and-left (w && m && z && o) e h in
-    let h3 = and-left (w && m && z) o h4 in
-    let h2 = and-left (w && m) z h3 in
+    let h4 = both (w && m && z && o) e h .0 in
+    let h3 = both (w && m && z) o h4 .0 in
+    let h2 = both (w && m) z h3 .0 in
     record {
-      weights = and-left w m h2;
-      marks = and-right w m h2;
-      zeros = and-right (w && m) z h3;
-      order = and-right (w && m && z) o h4;
-      energy = leb-true _ _ (and-right (w && m && z && o) e h);
+      weights = both w m h2 .0;
+      marks = both w m h2 .1;
+      zeros = both (w && m) z h3 .1;
+      order = both (w && m && z) o h4 .1;
+      energy = leb-true _ _ (both (w && m && z && o) e h .1);
     }
 
--- what holds of each weight, of each mark, and of each count without a reading
+-- what holds of each weight and of each mark
 pub weight-good : (w : List ℕ) → goodWeights w ≡ true → (d : ℕ) → d < length w → (weightLeast ≤ getD w d 0) × (getD w d 0 ≤ weightMost)
 unfolding goodWeights
 weight-good w g d l =
     let x = getD w d 0 in
     let h = every-at _ _ g d l in
-    (leb-true _ _ (and-left (leb weightLeast x) (leb x weightMost) h), leb-true _ _ (and-right (leb weightLeast x) (leb x weightMost) h))
+    (leb-true _ _ (both (leb weightLeast x) (leb x weightMost) h .0), leb-true _ _ (both (leb weightLeast x) (leb x weightMost) h .1))
 
 pub mark-most : (a : Account) → Sound a → (k : ℕ) → k < suc (days a) → getD (a .marks) k 0 ≤ 3
 unfolding goodMarks
 mark-most a s k l = leb-true _ _ (every-at _ _ (s .marks) k l)
-
-pub count-zero : (a : Account) → Sound a → (k : ℕ) → k < suc (days a) → marksReading (getD (a .marks) k 0) ≡ false → getD (a .counts) k 0 ≡ 0
-unfolding zeroCounts
-count-zero a s k l e = eqb-true _ _ (rw e at (every-at _ _ (s .zeros) k l))

@@ -7,7 +7,7 @@ use borrow.Author.Tests.{eq-eqb, ne-eqb}
 use lib.ListN.{length, getD}
 use Rattle.profile.specs.Limits.{spanMost}
 use Rattle.account.specs.Account.{Account, days, marksReading, marksCut, markOf}
-use Rattle.account.specs.Table.{row}
+use Rattle.profile.specs.Rows.{row}
 use Rattle.account.specs.Calls.{left}
 use Rattle.account.specs.Slices.{boundaryRows}
 use Rattle.account.proofs.Sound.{sound-parts, mark-most}

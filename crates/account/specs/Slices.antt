@@ -9,7 +9,8 @@ use Rattle.profile.specs.Limits.{spanMost}
 use Rattle.account.specs.Boundaries.{first, last}
 use Rattle.account.specs.Stands.{neverFalling}
 use Rattle.account.specs.Account.{Account, days, shown, badSpan, marksReading, goodMarks, zeroCounts}
-use Rattle.account.specs.Table.{row, accountRows}
+use Rattle.profile.specs.Rows.{row}
+use Rattle.account.specs.Table.{accountRows}
 
 -- whether these marks show a reading at k
 abbrev pub readsAt : List ℕ → ℕ → Bool

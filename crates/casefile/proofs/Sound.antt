@@ -17,7 +17,7 @@ use Rattle.account.specs.Stands.{Stands, Readings, nothing, withReading, lastLe
 use Rattle.account.specs.Account.{Account, days, shown, unfit, sound, goodWeights, energyMost}
 use Rattle.account.specs.Table.{outOfOrder, tooMuch, readingRows}
 use Rattle.account.specs.Calls.{cleared}
-use Rattle.account.proofs.Boundaries.{clash, refuted, both, none-at, first-found, last-found}
+use Rattle.account.proofs.Boundaries.{clash, refuted, both, none-at, none-is, first-found, last-found}
 use Rattle.account.proofs.Readings.{every-is}
 use Rattle.account.proofs.Rows.{Checked}
 use Rattle.account.proofs.Keeps.{Holds, open-keeps, reading-keeps, cut-keeps}
@@ -49,11 +49,6 @@ record Orderly (s : List ℕ) (i : ℕ) (r : Readings) : Type 0 where
   below : (j : ℕ) → r .at j ≡ true → j < above (readingBoundary s) i
   most : (j : ℕ) → r .at j ≡ true → r .count j ≤ before (readingValue s) i
   least : (j : ℕ) → r .at j ≡ true → readingValue s 0 ≤ r .count j
-
-none-some : (p : ℕ → Bool) (m : ℕ) → ((j : ℕ) → p j ≡ false) → some p m ≡ false
-unfolding some
-none-some p zero all = refl
-none-some p (suc m) all = rw (none-some p m all, all m) refl
 
 -- one more reading
 more : {s : List ℕ} {i : ℕ} {r : Readings} → Orderly s i r → Sane s i → Orderly s (suc i) (withReading r (readingBoundary s i) (readingValue s i))
@@ -89,7 +84,7 @@ module _ {s : List ℕ} {i : ℕ} (n : ℕ) (st : Stands) (o : Orderly s i (st .
 
   orderly-count : outOfOrder n (st .readings) (readingBoundary s i) (readingValue s i) ≡ false
   unfolding outOfOrder
-  orderly-count = rw (none-some _ (suc n) earlier, none-some _ (suc n) later) refl
+  orderly-count = rw (none-is _ (suc n) (λ j h. earlier j), none-is _ (suc n) (λ j h. later j)) refl
     where
       earlier : (j : ℕ) → (ltb j (readingBoundary s i) && (st .readings .at j && ltb (readingValue s i) (st .readings .count j))) ≡ false
       earlier j = refuted _ λ h.

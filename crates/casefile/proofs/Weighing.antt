@@ -13,7 +13,8 @@ use lib.Seq.{ext-getD, getD-drop, length-take-le}
 use Rattle.profile.specs.Limits.{inRange, spanMost, profileCount}
 use Rattle.account.specs.Account.{badSpan}
 use Rattle.account.proofs.Boundaries.{both}
-use Rattle.weights.specs.Means.{row, firstOut, someOut}
+use Rattle.profile.specs.Rows.{row}
+use Rattle.weights.specs.Means.{firstOut, someOut}
 use Rattle.weights.specs.Weights.{weightsOf, weights-length, WeightsMet}
 use Rattle.weights.specs.declared.WeightsAnswer.{WeightsAnswer}
 use Rattle.casefile.specs.declared.sections.Progress.{Progress}

@@ -8,7 +8,7 @@ use lib.Dec.{eqb, ltb}
 use lib.ListN.{length}
 use Rattle.rounding.specs.Nearest.{nearest}
 use Rattle.account.specs.Account.{badSpan, goodWeight, goodWeights, energyMost}
-use Rattle.account.specs.Table.{row}
+use Rattle.profile.specs.Rows.{row}
 use Rattle.customer.specs.declared.CustomerAnswer.{CustomerAnswer}
 use Rattle.customer.specs.declared.CustomerAnswer.the-variants.{Given, Unfit, Unsound, TooMuch, TooGreat}
 

@@ -2,24 +2,21 @@
 -- series serves, and else empty. Assumes nothing.
 use Prim.Native.Nat.{ℕ, _+_, _≤_}
 use mathlib.Core.Path.{_≡_, refl, sym, ap, _∙_}
-use mathlib.Core.Bool.{Bool, true, false, cond, not, _&&_}
+use mathlib.Core.Bool.{Bool, true, false, cond, not}
 use mathlib.Core.List.{List}
 use denote.Ref.{RefT}
 use borrow.Author.Tests.{leb-true}
-use lib.Dec.{eqb}
+use lib.Dec.{eqb, leb}
 use lib.IntN.{ℤ}
 use lib.ListN.{length, take}
 use lib.Seq.{length-take-le}
-use Rattle.weights.specs.Means.{row}
+use Rattle.account.proofs.Boundaries.{both}
+use Rattle.profile.specs.Rows.{row}
 use Rattle.weights.specs.Choose.{spans, serves, firstOf, ChooseMet}
 
 -- a series that serves has so many means
 long : (s : List ℤ) (k : ℕ) → serves s k ≡ true → k ≤ length s
-long s k e = leb-true k (length s) (left _ _ e)
-  where
-    left : (a b : Bool) → a && b ≡ true → a ≡ true
-    left true b e = refl
-    left false b e = e
+long s k e = leb-true k (length s) (both (leb k (length s)) _ e .0)
 
 -- how many means the chooser returns of one series
 abbrev pub alone : Bool → Bool → ℕ → ℕ

@@ -12,7 +12,8 @@ use Rattle.profile.specs.Table.{profileOf}
 use Rattle.profile.specs.Value.{valueLow, valueHigh}
 use Rattle.profile.specs.Weight.{weightOf, floorWeight}
 use Rattle.profile.specs.Answers.{accepted, valueRefusal, weightRefusal, Enclosed}
-use Rattle.weights.specs.Means.{row, firstOut, someOut}
+use Rattle.profile.specs.Rows.{row}
+use Rattle.weights.specs.Means.{firstOut, someOut}
 use Rattle.weights.specs.Temperature.{four, temperatureOf}
 use Rattle.weights.specs.Choose.{spans, serves}
 use Rattle.weights.specs.Weights.{outcome, Bounded}

@@ -7,7 +7,8 @@ use lib.ListN.{length}
 use Rattle.account.specs.declared.Answer.{Answer}
 use Rattle.account.specs.Stands.{Stands}
 use Rattle.account.specs.Account.{Account}
-use Rattle.account.specs.Table.{row, readingRows, withdrawRows, cutRows, uncutRows}
+use Rattle.profile.specs.Rows.{row}
+use Rattle.account.specs.Table.{readingRows, withdrawRows, cutRows, uncutRows}
 use Rattle.account.specs.Calls as calls
 use Rattle.account.specs.Calls.{ReadingMet, WithdrawMet, CutMet, UncutMet}
 use Rattle.statement.specs.declared.StatementAnswer.{StatementAnswer}

@@ -1,3 +1,3 @@
 pub mod Decimal
-mod Laid
+pub mod Laid
 mod Sums

@@ -1,34 +1,18 @@
 -- One-step laws for a pass over the parts: whether some part holds a test, the total, the lines. Assumes nothing.
 use mathlib.Core.Path.{_≡_, refl}
-use mathlib.Core.Bool.{Bool, true, false, _||_, or-true}
+use mathlib.Core.Bool.{Bool, _||_}
 use mathlib.Core.List.{List, [], _++_}
-use Prim.Native.Nat.{ℕ, zero, suc, _+_, _<_}
-use native.Mathlib.Nat.{not-suc-le-zero}
+use Prim.Native.Nat.{ℕ, _+_}
 use native.Mathlib.Numerals.{add-one}
-use native.Mathlib.Omega.{arith}
-use native.Mathlib.Decide.{ℕ-discrete}
 use lib.ListN.{getD}
 use Rattle.account.specs.Boundaries.{some}
 use Rattle.statement.specs.Parts.{Outputs}
 use Rattle.statement.specs.Shares.{total}
 use Rattle.layout.specs.Text.{partLines, lineOf}
 
-pub some-none : (p : ℕ → Bool) → some p 0 ≡ false
-unfolding some
-some-none p = refl
-
 pub some-more : (p : ℕ → Bool) (i : ℕ) → some p (i + 1) ≡ (some p i || p i)
 unfolding some
 some-more p i = rw add-one
-
-pub some-found : (p : ℕ → Bool) (m k : ℕ) → k < m → p k ≡ true → some p m ≡ true
-unfolding some
-some-found p zero k h t = absurd (not-suc-le-zero h)
-some-found p (suc m) k h t =
-    elim (ℕ-discrete k m) [
-      | yes e ↦ rw (← e, t, or-true)
-      | no other ↦ rw (some-found p m k (omega arith) t)
-    ]
 
 pub total-none : (o : Outputs) → total o 0 ≡ 0
 unfolding total

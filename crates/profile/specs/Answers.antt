@@ -6,6 +6,7 @@ use Prim.Native.Nat.{ℕ, _≤_}
 use lib.Dec.{leb, ltb, eqb}
 use lib.IntN.{ℤ, pos}
 use Rattle.power.specs.Power.{Encloses}
+use Rattle.profile.specs.Rows.{row}
 use Rattle.profile.specs.Limits.{inRange, coldest, warmest, weightLeast, weightMost, spanMost, profileCount}
 use Rattle.profile.specs.Table.{profileOf, total}
 use Rattle.profile.specs.Value.{ratioN, ratioM, lowPower, highPower, valueLow, valueHigh}
@@ -15,10 +16,6 @@ use Rattle.profile.specs.declared.ValueAnswer.{ValueAnswer}
 use Rattle.profile.specs.declared.ValueAnswer.the-variants as Valued
 use Rattle.profile.specs.declared.WeightAnswer.{WeightAnswer}
 use Rattle.profile.specs.declared.WeightAnswer.the-variants as Weighed
-
--- a row of the table: where its condition holds the call declines with its number, else the next row is asked
-abbrev pub row : Bool → ℕ → ℕ → ℕ
-row condition number rest = cond condition number rest
 
 -- what a call gives where its number is 0, and the zero where it declines
 abbrev pub accepted : {A : Type 0} → ℕ → A → A → A

@@ -1,5 +1,6 @@
 -- What the contracts of crate profile cite: `Profiles`, `Profile value`, `If a call declines`.
 pub mod Limits
+pub mod Rows
 pub mod Table
 pub mod Value
 pub mod Parts

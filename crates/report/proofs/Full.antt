@@ -12,6 +12,7 @@ use lib.ListN.{length, getD, replicate, length-append, length-map}
 use Rattle.profile.specs.Limits.{spanMost}
 use Rattle.account.specs.Boundaries.{some, howMany}
 use Rattle.account.specs.Account.{Account, days, shown, energyMost}
+use Rattle.account.proofs.Boundaries.{none-is}
 use Rattle.account.proofs.Sound.{fit, sound-parts}
 use Rattle.account.proofs.Rows.{row-none, checked, rows-through}
 use Rattle.statement.specs.Parts.{Part, Outputs, padded, parts, written}
@@ -35,11 +36,6 @@ total-grows o (suc m) i h = by (decLt i m) (total-grows o m i)
         let same : i ≡ m = omega arith in
         omega (arith, ap (λ (k : ℕ). getD (o .wh) k 0) same)
 
-none-below : (p : ℕ → Bool) (m : ℕ) → ((i : ℕ) → i < m → p i ≡ false) → some p m ≡ false
-unfolding some
-none-below p zero all = refl
-none-below p (suc m) all = rw (none-below p m (λ i h. all i (omega arith)), all m (omega arith)) refl
-
 long-enough : (f : Part → ℕ) (n : ℕ) (ps : List Part) → ltb (length (padded n (map f ps))) (length ps) ≡ false
 long-enough f n ps =
     le-ltb (length (padded n (map f ps))) (length ps)
@@ -54,7 +50,7 @@ in-full a number =
     let sum = sums-up (a .weights) (shown a) (fair-of-sound a (ok .sound)) two in
     let few = parts-fit (a .weights) (shown a) (days a) in
     let small : some (λ i. ltb energyMost (getD (o .wh) i 0)) (length ps) ≡ false =
-    none-below _ (length ps) (λ i h. le-ltb energyMost (getD (o .wh) i 0) (omega (arith, total-grows o (length ps) i h, sum, sound-parts a (ok .sound) .energy))) in
+    none-is _ (length ps) (λ i h. le-ltb energyMost (getD (o .wh) i 0) (omega (arith, total-grows o (length ps) i h, sum, sound-parts a (ok .sound) .energy))) in
     let is : noStatement o (length ps) ≡ false =
     simp (
       le-ltb spanMost (length ps) (omega (arith, few, fit a (ok .fits) .most)),

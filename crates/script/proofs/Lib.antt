@@ -1,4 +1,4 @@
-mod Split
+pub mod Split
 mod Digits
 mod Judged
 mod Listing

@@ -56,7 +56,7 @@ words-first s = rw zero-add (go s)
         by true e = refl
         by false e = ap (prefixed x) e
 
-upTo-short : (b : ℕ) (s : List ℕ) → length (upTo b s) ≤ length s
+pub upTo-short : (b : ℕ) (s : List ℕ) → length (upTo b s) ≤ length s
 unfolding upTo
 upTo-short b [] = le-refl 0
 upTo-short b (x ∷ s) = by (eqb x b) (upTo-short b s)

@@ -10,13 +10,13 @@ use lib.IntN.{ℤ}
 use lib.ListN.{length, take, drop, take-append-drop}
 use lib.Seq.{length-take-le, sets-eq, take-at}
 use Rattle.account.specs.Account.{Account, account}
-use Rattle.account.specs.Table.{row, openNumber}
+use Rattle.profile.specs.Rows.{row}
+use Rattle.account.specs.Table.{openNumber}
 use Rattle.profile.specs.Limits.{spanMost, profileCount}
 use Rattle.script.specs.Numbers.{Listed}
 use Rattle.account.specs.Calls.{OpenMet, cleared, left, number}
 use Rattle.weights.specs.Choose.{spans}
 use Rattle.weights.specs.Means.{firstOut, someOut}
-use Rattle.weights.specs.Means as series
 use Rattle.weights.specs.Weights.{Outcome, outcome, unfit, zeros, weightsOf}
 use Rattle.account.specs.declared.Answer.{Answer}
 use Rattle.session.specs.Buffers.{laid}
@@ -87,7 +87,7 @@ module _ (ws : List ℕ) (b : Account) (n m c : ℕ) (marks counts : List ℕ) (
 pub too-many : (ws : List ℕ) (b : Account) → spanMost < length ws → opensNumber ws b ≡ 3
 too-many ws b h = simp (lt-leb (length ws) spanMost h, and-false) (either (ltb (length (b .weights)) (length ws)))
   where
-    either : (short : Bool) → row short 3 3 ≡ 3
+    either : (short : Bool) → _≡_ {A = ℕ} (row short 3 3) 3
     either true = refl
     either false = refl
 
@@ -112,10 +112,10 @@ same-offer profile weekday means x y e b r then met =
   where
     rows : Bool → Bool → Bool → Bool → List ℕ → Outcome
     rows short noProfile noWeekday out before =
-        series.row short (record { number = 3; place = 0; memory = before })
-        (series.row noProfile (record { number = 1; place = 0; memory = zeros y })
-        (series.row noWeekday (record { number = 2; place = 0; memory = zeros y })
-        (series.row out (record { number = 4; place = firstOut means; memory = zeros y })
+        row short (record { number = 3; place = 0; memory = before })
+        (row noProfile (record { number = 1; place = 0; memory = zeros y })
+        (row noWeekday (record { number = 2; place = 0; memory = zeros y })
+        (row out (record { number = 4; place = firstOut means; memory = zeros y })
         (record { number = 0; place = 0; memory = weightsOf profile weekday means }))))
 
     by : (u p w s : Bool) → OpenedMet (rows u p w s x) b r then → OpenedMet (rows u p w s y) b r then

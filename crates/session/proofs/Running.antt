@@ -8,11 +8,13 @@ use native.Mathlib.Nat.{add-zero, zero-add}
 use native.Mathlib.Decide.{decLe}
 use borrow.Author.Needs.{zero≤}
 use lib.Dec.{eqb}
-use lib.ListN.{length, take, drop, set, length-append, length-drop, drop-of-length-le}
+use lib.ListN.{length, take, drop, length-append, length-drop, drop-of-length-le}
 use lib.Seq.{drop-drop, take-at, take-all, sets, sets-eq, length-sets}
 use borrow.Rule.Slice.PartMut.{midOf, postOf, putMid}
 use Rattle.account.specs.Account.{Account}
 use Rattle.layout.specs.Text.{LaidOut}
+use Rattle.layout.proofs.Laid.{then-laid}
+use Rattle.script.proofs.Split.{upTo-short}
 use Rattle.script.specs.Words.{upTo, lineEnd}
 use Rattle.script.specs.Calls.{commandOf}
 use Rattle.session.specs.Lines.{Session, session, says, next, StepMet}
@@ -48,15 +50,6 @@ take-upTo b (x ∷ s) = by (eqb x b) (take-upTo b s)
         take (length (cond found [] (x ∷ upTo b s))) (x ∷ s) ≡ cond found [] (x ∷ upTo b s)
     by true e = refl
     by false e = ap (λ (t : List ℕ). x ∷ t) e
-
-upTo-short : (b : ℕ) (s : List ℕ) → length (upTo b s) ≤ length s
-unfolding upTo
-upTo-short b [] = omega arith
-upTo-short b (x ∷ s) = by (eqb x b) (upTo-short b s)
-  where
-    by : (found : Bool) → length (upTo b s) ≤ length s → length (cond found [] (x ∷ upTo b s)) ≤ length (x ∷ s)
-    by true h = omega arith
-    by false h = omega arith
 
 module _ (s : List ℕ) (at end : ℕ) (h : at < length s) (e : end ≡ lineEnd s at) where
   pub line-within : (at ≤ end) × (end ≤ length s)
@@ -106,23 +99,6 @@ gathered out text filled room =
     ap (λ (ys : List ℕ). take filled out ++ (text ++ ys)) far ∙
     sym (append-assoc (take filled out) text (drop (filled + length text) out)) ∙
     sym (sets-eq text out filled room)
-
--- two texts laid out one after the other are their joined text laid out
-sets-append : (o : List ℕ) (at : ℕ) (xs ys : List ℕ) → sets (sets o at xs) (at + length xs) ys ≡ sets o at (xs ++ ys)
-sets-append o at [] ys = rw add-zero
-sets-append o at (x ∷ xs) ys =
-    let e : at + suc (length xs) ≡ suc at + length xs = omega arith in
-    ap (λ (n : ℕ). sets (sets (set o at x) (suc at) xs) n ys) e ∙ sets-append (set o at x) (suc at) xs ys
-
-then-laid : (xs ys o : List ℕ) (m : ℕ) (p : List ℕ) (n : ℕ) (q : List ℕ) → LaidOut 0 xs o m p → LaidOut m ys p n q → LaidOut 0 (xs ++ ys) o n q
-then-laid xs ys o m p n q one two =
-    record {
-      ends = omega (arith, one .ends, two .ends, length-append xs ys);
-      stored =
-          two .stored ∙
-          ap₂ (λ (k : ℕ) (l : List ℕ). sets l k ys) (one .ends) (one .stored) ∙
-          sets-append o 0 xs ys;
-    }
 
 -- a line's answer, put after those before it
 pub gathered-met : (line : List ℕ) (l : ℕ) (s : Session) (out : List ℕ) (filled : ℕ) (said : Said) (then : Account) (part : List ℕ) →
@@ -177,7 +153,7 @@ module _ (text : List ℕ) (at done : ℕ) (before : Session) (out : List ℕ) w
       ap₂ (λ (l : ℕ) (t : Session). says (commandOf line) line (l + 1) t) (g .counts) (g .leaves) in
       record {
         lines-passed = ls ++ (line ∷ []);
-        answers = rw (transcript-more ls line done before, ← told) (then-laid _ _ _ _ _ _ _ (g .answers) (met .answers));
+        answers = rw (transcript-more ls line done before, ← told) (then-laid (g .answers) (met .answers));
         within = met .within;
         leaves = met .leaves ∙ ap (next (commandOf line) line) (g .leaves) ∙ sym (session-more ls line before);
         counts = omega (arith, g .counts, length-append ls (line ∷ []));

@@ -7,7 +7,8 @@ use lib.Dec.{eqb, ltb}
 use lib.IntN.{ℤ}
 use lib.ListN.{length, take, replicate}
 use Rattle.account.specs.Account.{Account, account, days, shown}
-use Rattle.account.specs.Table.{row, accountRows, openNumber, readingNumber, withdrawNumber, cutNumber, uncutNumber}
+use Rattle.profile.specs.Rows.{row}
+use Rattle.account.specs.Table.{accountRows, openNumber, readingNumber, withdrawNumber, cutNumber, uncutNumber}
 use Rattle.account.specs.Calls.{left, cleared, readingPut, readingTaken, cutPut, cutTaken}
 use Rattle.statement.specs.Parts.{parts, written}
 use Rattle.statement.specs.Call.{statementRows}

@@ -10,7 +10,8 @@ use borrow.Author.Tests.{ne-eqb, eq-eqb, lt-ltb, le-ltb}
 use Rattle.account.specs.Boundaries.{howMany}
 use Rattle.account.specs.Account.{Account, days, shown, unfit, sound}
 use Rattle.account.specs.Slices.{readsAt}
-use Rattle.account.specs.Table.{row, accountRows}
+use Rattle.profile.specs.Rows.{row}
+use Rattle.account.specs.Table.{accountRows}
 use Rattle.statement.specs.declared.StatementAnswer.the-variants.{Parts, Unfit, Unsound, TooFewReadings}
 use Rattle.statement.specs.Parts.{Outputs, outputs}
 use Rattle.statement.specs.Call.{StatementMet, unfitOutputs, zeroed}
@@ -19,17 +20,17 @@ use Rattle.statement.proofs.CodeSound.{checked-fit}
 use Rattle.statement.proofs.CodeWritten.{Long, outputs-same}
 
 -- what the number of the rows 3 and 5 says
-unfit-by : (u s : Bool) → row u 3 (row (not s) 5 0) ≡ 3 → u ≡ true
+unfit-by : (u s : Bool) → _≡_ {A = ℕ} (row u 3 (row (not s) 5 0)) 3 → u ≡ true
 unfit-by true s h = refl
 unfit-by false true h = absurd (omega arith)
 unfit-by false false h = absurd (omega arith)
 
-unsound-by : (u s : Bool) → (row u 3 (row (not s) 5 0) ≡ 3 → ⊥) → (row u 3 (row (not s) 5 0) ≡ 0 → ⊥) → (u ≡ false) × (s ≡ false)
+unsound-by : (u s : Bool) → (_≡_ {A = ℕ} (row u 3 (row (not s) 5 0)) 3 → ⊥) → (_≡_ {A = ℕ} (row u 3 (row (not s) 5 0)) 0 → ⊥) → (u ≡ false) × (s ≡ false)
 unsound-by true s h k = absurd (h refl)
 unsound-by false true h k = absurd (k refl)
 unsound-by false false h k = (refl, refl)
 
-checked-by : (u s : Bool) → row u 3 (row (not s) 5 0) ≡ 0 → (u ≡ false) × (s ≡ true)
+checked-by : (u s : Bool) → _≡_ {A = ℕ} (row u 3 (row (not s) 5 0)) 0 → (u ≡ false) × (s ≡ true)
 checked-by true s h = absurd (omega arith)
 checked-by false true h = (refl, refl)
 checked-by false false h = absurd (omega arith)

@@ -7,7 +7,7 @@ use lib.ListN.{length, replicate}
 use Rattle.account.specs.Boundaries.{howMany}
 use Rattle.account.specs.Stands.{Stands}
 use Rattle.account.specs.Account.{Account, days, shown, unfit, sound}
-use Rattle.account.specs.Table.{row}
+use Rattle.profile.specs.Rows.{row}
 use Rattle.statement.specs.declared.StatementAnswer.{StatementAnswer}
 use Rattle.statement.specs.declared.StatementAnswer.the-variants.{Parts, Unfit, Unsound, TooFewReadings}
 use Rattle.statement.specs.Parts.{Outputs, outputs, parts, written}

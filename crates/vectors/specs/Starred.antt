@@ -9,7 +9,8 @@ use lib.IntN.{ℤ, pos}
 use lib.ListN.{length, replicate}
 use Rattle.power.specs.Power.{pLow, pHigh}
 use Rattle.profile.specs.Limits.{minus}
-use Rattle.weights.specs.Means.{row, someOut}
+use Rattle.profile.specs.Rows.{row}
+use Rattle.weights.specs.Means.{someOut}
 use Rattle.weights.specs.Temperature.{temperatureOf, four}
 use Rattle.account.specs.Stands.{Stands, nothing, withReading}
 use Rattle.account.specs.Account.{Account, account}

@@ -10,7 +10,8 @@ use lib.Dec.{leb}
 use lib.IntN.{ℤ}
 use lib.ListN.{length, take}
 use Rattle.profile.specs.Limits.{spanMost}
-use Rattle.weights.specs.Means.{row, someOut}
+use Rattle.profile.specs.Rows.{row}
+use Rattle.weights.specs.Means.{someOut}
 
 -- n is a number of days that a span can have
 abbrev pub spans : ℕ → Bool

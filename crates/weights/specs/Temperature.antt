@@ -5,7 +5,8 @@ use mathlib.Core.List.{List, [], _∷_}
 use Prim.Native.Nat.{ℕ, _*_}
 use lib.IntN.{ℤ, pos, _+ℤ_, _*ℤ_}
 use Rattle.profile.specs.Weight.{floorℤ}
-use Rattle.weights.specs.Means.{row, firstOut, someOut}
+use Rattle.profile.specs.Rows.{row}
+use Rattle.weights.specs.Means.{firstOut, someOut}
 use Rattle.weights.specs.declared.TemperatureAnswer.{TemperatureAnswer}
 use Rattle.weights.specs.declared.TemperatureAnswer.the-variants.{Temperature, OutOfRange}
 

@@ -13,7 +13,8 @@ use lib.ListN.{length, getD, replicate, length-append, List·getD-append}
 use lib.Seq.{getD-at}
 use Rattle.profile.specs.Limits.{profileCount, spanMost, weightLeast, weightMost}
 use Rattle.profile.specs.Weight.{weightOf}
-use Rattle.weights.specs.Means.{row, firstOut, someOut}
+use Rattle.profile.specs.Rows.{row}
+use Rattle.weights.specs.Means.{firstOut, someOut}
 use Rattle.weights.specs.Temperature.{temperatureOf}
 use Rattle.weights.specs.Choose.{spans}
 use Rattle.weights.specs.declared.WeightsAnswer.{WeightsAnswer}

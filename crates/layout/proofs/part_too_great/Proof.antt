@@ -8,7 +8,8 @@ use lib.Dec.{ltb}
 use lib.ListN.{length, getD}
 use Rattle.account.specs.Boundaries.{some}
 use Rattle.account.specs.Account.{energyMost}
-use Rattle.layout.proofs.Sums.{some-none, some-more, some-found}
+use Rattle.account.proofs.Boundaries.{some-zero, some-at}
+use Rattle.layout.proofs.Sums.{some-more}
 use Rattle.layout.proofs.part_too_great.Statement.{statement}
 use Rattle.layout.proofs.part_too_great.Tie as tie
 
@@ -19,7 +20,7 @@ abbrev μ-loop : tie.MeasureT-loop
 μ-loop wh parts i₀ i = parts - i
 
 loop-holds : tie.Need-loop-holds Inv-loop μ-loop
-loop-holds c = (omega arith, some-none _)
+loop-holds c = (omega arith, some-zero _)
 
 mul-if1 : tie.Need-mul-if1 Inv-loop μ-loop
 mul-if1 c = omega arith
@@ -30,7 +31,7 @@ shared-slice-read-if1 c = omega arith
 returns : tie.Need-returns Inv-loop μ-loop
 returns c =
     let at = c .before .before .before .loop .i in
-    sym (some-found _ _ at (c .before .before .loop-test .taken) (lt-ltb energyMost _ (c .if1 .taken)))
+    sym (some-at _ _ at (c .before .before .loop-test .taken) (lt-ltb energyMost _ (c .if1 .taken)))
 
 add-i : tie.Need-add-i Inv-loop μ-loop
 add-i c = omega arith

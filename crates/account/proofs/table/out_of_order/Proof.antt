@@ -10,7 +10,7 @@ use Rattle.account.specs.Boundaries.{some}
 use Rattle.account.specs.Stands.{Readings}
 use Rattle.account.specs.Account.{account, shown}
 use Rattle.account.specs.Table.{outOfOrder}
-use Rattle.account.proofs.Boundaries.{or-left, or-right, some-zero, some-none, some-at}
+use Rattle.account.proofs.Boundaries.{neither, some-zero, some-none, some-at}
 use Rattle.account.proofs.table.out_of_order.Statement.{statement}
 use Rattle.account.proofs.table.out_of_order.Tie as tie
 
@@ -31,7 +31,7 @@ module _ (r : Readings) (k v : ℕ) where
 
   agree-more : (j : ℕ) → Agree r k v j → earlier r k v j || later r k v j ≡ false → Agree r k v (suc j)
   agree-more j a e =
-      record { low = some-none _ j (a .low) (or-left _ _ e); high = some-none _ j (a .high) (or-right (earlier r k v j) _ e) }
+      record { low = some-none _ j (a .low) (neither _ _ e .0); high = some-none _ j (a .high) (neither (earlier r k v j) _ e .1) }
 
   agree-all : (n : ℕ) → Agree r k v (suc n) → false ≡ outOfOrder n r k v
   unfolding outOfOrder
