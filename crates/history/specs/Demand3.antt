@@ -1,11 +1,16 @@
 -- Demand 3: one claim about every list of reading, withdraw, cut, uncut and statement calls on a freshly opened account, and all
 -- their answers. `demand3` in proofs/Theorem.antt proves it for every list that runs after an accepted open.
-use Prim.Native.Nat.{ℕ, _≤_, _<_}
+use Prim.Native.Nat.{ℕ, _+_, _≤_, _<_}
 use mathlib.Core.Path.{_≡_}
 use mathlib.Core.Bool.{true}
 use mathlib.Core.List.{List, [], _∷_, _++_}
+use lib.IntN.{ℤ}
 use lib.ListN.{length, getD}
-use Rattle.account.specs.Account.{Account, shown}
+use Rattle.weights.specs.declared.WeightsAnswer.{WeightsAnswer}
+use Rattle.weights.specs.Weights.{WeightsMet}
+use Rattle.weights.specs.Weights as weights
+use Rattle.account.specs.Account.{Account, account, shown}
+use Rattle.account.specs.Table.{openNumber}
 use Rattle.account.specs.declared.Answer.{Answer}
 use Rattle.account.specs.Calls.{OpenMet, number}
 use Rattle.account.specs.Stands.{lastLessFirst}
@@ -58,3 +63,12 @@ abbrev pub Claim : Type 0
 Claim =
     (before opened : Account) (answer : Answer) → OpenMet before answer opened → number answer ≡ 0 →
     (es : List Event) → Run opened es → Demand3 (before .weights) es
+
+-- "... over weights from demand 2": weights that the weights call gives are ones that open accepts, with any marks and counts of the lengths
+-- for them. So the claim holds of every list of calls on them.
+abbrev pub OverWeights : Type 0
+OverWeights =
+    (profile weekday : ℕ) (means : List ℤ) (lent : List ℕ) (given : WeightsAnswer) (w : List ℕ) →
+    WeightsMet profile weekday means lent given w → weights.number given ≡ 0 →
+    (marks counts : List ℕ) → length marks ≡ length w + 1 → length counts ≡ length w + 1 →
+    openNumber (account w marks counts) ≡ 0
