@@ -5,7 +5,7 @@
 
 An edit of the gate holds several faults of its crate, at most one in a function, each after a line `# NAME: what is wrong`. The gate shows
 that every edit is refused. This copies the repository, makes an edit of each fault, and has `rt must-fail` try them all, which takes
-about three times as long as the gate.
+much longer than the gate.
 """
 import os
 import re
