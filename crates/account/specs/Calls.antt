@@ -7,8 +7,8 @@ use lib.Dec.{eqb}
 use lib.ListN.{length, set, replicate}
 use Rattle.account.specs.declared.Answer.{Answer}
 use Rattle.account.specs.declared.Answer.the-variants.{Done, Unfit, Unsound, NoBoundary, AlreadyThere, OutOfOrder, TooMuch, NotThere}
-use Rattle.account.specs.Account.{Account, account, shown, markOf}
-use Rattle.account.specs.Table.{openNumber, readingNumber, withdrawNumber, cutNumber, uncutNumber}
+use Rattle.account.specs.Account.{Account, account, shown, markOf, goodWeights}
+use Rattle.account.specs.Table.{accountRows, openNumber, readingNumber, withdrawNumber, cutNumber, uncutNumber}
 
 -- the number that the paper gives each answer; 0 is done
 abbrev pub number : Answer → ℕ
@@ -62,3 +62,12 @@ pub record CutMet (before : Account) (k : ℕ) (answer : Answer) (after : Accoun
 pub record UncutMet (before : Account) (k : ℕ) (answer : Answer) (after : Account) : Type 0 where
   pub answers : number answer ≡ uncutNumber before k
   pub leaves : after ≡ left (uncutNumber before k) (cutTaken before k) before
+
+-- rows 3 and 5 asked alone (0: neither), and the weights asked alone
+pub record CheckMet (before : Account) (answered : ℕ) (after : Account) : Type 0 where
+  pub answers : answered ≡ accountRows before 0
+  pub leaves : after ≡ before
+
+pub record GoodWeightsMet (w : List ℕ) (good : Bool) (after : List ℕ) : Type 0 where
+  pub says : good ≡ goodWeights w
+  pub leaves : after ≡ w

@@ -15,9 +15,8 @@ use table::reading_answer;
 use table::uncut_answer;
 use table::withdraw_answer;
 ghost use mathlib.Core.Path.{_≡_};
-ghost use Rattle.account.specs.Account.{account, goodWeights};
-ghost use Rattle.account.specs.Table.{accountRows};
-ghost use Rattle.account.specs.Calls.{number, OpenMet, ReadingMet, WithdrawMet, CutMet, UncutMet};
+ghost use Rattle.account.specs.Account.{account};
+ghost use Rattle.account.specs.Calls.{number, OpenMet, ReadingMet, WithdrawMet, CutMet, UncutMet, CheckMet, GoodWeightsMet};
 
 // What a call answers: done, or a row of the table.
 pub enum Answer {
@@ -32,7 +31,7 @@ pub enum Answer {
 }
 
 // "Last less first at most 2,000,000,000", in Wh.
-const ENERGY_MOST: u64 = 2_000_000_000;
+pub const ENERGY_MOST: u64 = 2_000_000_000;
 
 // Clears marks and counts, whatever they held.
 pub fn open(weights: &[u32], marks: &mut [u8], counts: &mut [u64]) -> Answer
@@ -101,7 +100,7 @@ pub fn uncut(weights: &[u32], marks: &mut [u8], counts: &[u64], k: usize) -> Ans
 
 // The rows that every call but open checks first: 3, 5, or 0 for neither.
 pub fn check(weights: &[u32], marks: &[u8], counts: &[u64]) -> u8
-    ensures { λ r. ⌜ r ≡ accountRows (account (now (weights .entry)) (now (marks .entry)) (now (counts .entry))) 0 ⌝ }
+    ensures { λ r. ⌜ CheckMet (account (now (weights .entry)) (now (marks .entry)) (now (counts .entry))) r (account (now (weights .exit)) (now (marks .exit)) (now (counts .exit))) ⌝ }
 {
     if unfit(weights.len(), marks.len(), counts.len()) {
         return 3;
@@ -120,7 +119,7 @@ pub fn check(weights: &[u32], marks: &[u8], counts: &[u64]) -> u8
 
 // "Weights 1 to 6,999,999."
 pub fn good_weights(weights: &[u32]) -> bool
-    ensures { λ r. ⌜ r ≡ goodWeights (now (weights .entry)) ⌝ }
+    ensures { λ r. ⌜ GoodWeightsMet (now (weights .entry)) r (now (weights .exit)) ⌝ }
 {
     let mut d = 0;
     while d < weights.len() {

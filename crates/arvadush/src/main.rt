@@ -1,21 +1,17 @@
 // The program (Case file): a case file from standard input, its statement or its refusal to standard output.
+use layout::TEXT_MOST;
 use libc::STDIN_FILENO;
 use libc::STDOUT_FILENO;
 use profile::Profile;
-
-// Reading no more than this never changes the verdict.
-const FILE: usize = 16_384;
-
-// No text is longer than 72,390 bytes.
-const TEXT: usize = 73_728;
+use report::FILE_READ;
 
 fn main() {
-    let mut file = [0u8; FILE];
+    let mut file = [0u8; FILE_READ];
     let length = io::read_full(STDIN_FILENO, &mut file);
     let mut weights = [0u32; Profile::SPAN];
     let mut marks = [0u8; Profile::SPAN + 1];
     let mut counts = [0u64; Profile::SPAN + 1];
-    let mut text = [0u8; TEXT];
+    let mut text = [0u8; TEXT_MOST];
     let n = report::case_text(
         &file[..length],
         &mut weights,

@@ -35,8 +35,8 @@ fit : (a : Account) → Long a → unfitSlices a ≡ false
 fit a l = simp (eq-eqb (length (a .weights)) spanMost (l .weights), eq-eqb (length (a .marks)) (spanMost + 1) (l .marks), eq-eqb (length (a .counts)) (spanMost + 1) (l .counts))
 
 -- "3 at 0, nothing touched"
-pub unfit-met : (s : List ℕ) (lent : Account) → unfitSlices lent ≡ true → ReadMet s lent (Refused 3 0) lent
-unfit-met s lent u = record { numbers = rw u refl; places = rw u refl; returns = rw u refl; fills = rw u refl }
+pub unfit-met : (s : List ℕ) (lent : Account) → unfitSlices lent ≡ true → ReadMet s lent (Refused 3 0) lent s
+unfit-met s lent u = record { numbers = rw u refl; places = rw u refl; returns = rw u refl; fills = rw u refl; keeps = refl }
 
 -- slices that were cleared
 clear-is : {n : ℕ} (lent : List ℕ) {after : List ℕ} → after ≡ replicate (length lent) 0 → length lent ≡ n → Clear n after
@@ -75,7 +75,7 @@ module _ {s : List ℕ} {lent filled : Account} {p : Progress} (l : Long lent) (
   judged : verdict s lent ≡ told (p .number) (p .place)
   judged = rw (fit lent l) found
 
-  pub refused-met : (p .number ≡ 0 → ⊥) → {after : Account} → after ≡ zeros filled → Long filled → ReadMet s lent (Refused (p .number) (p .place)) after
+  pub refused-met : (p .number ≡ 0 → ⊥) → {after : Account} → after ≡ zeros filled → Long filled → ReadMet s lent (Refused (p .number) (p .place)) after s
   refused-met h {after} e k =
       let n = ne-eqb (p .number) 0 h in
       record {
@@ -83,9 +83,10 @@ module _ {s : List ℕ} {lent filled : Account} {p : Progress} (l : Long lent) (
         places = sym (ap faultPlace judged ∙ told-place (p .number) (p .place) h);
         returns = sym (ap (λ (x : Fault). cond (eqb (faultNumber x) 0) (daysOf s) 0) judged ∙ simp (told-number (p .number) (p .place), n));
         fills = e ∙ same-zeros l k ∙ sym (rw (fit lent l) (ap (λ (x : Fault). cond (eqb (faultNumber x) 0) (full (named s)) (zeros lent)) found ∙ simp (told-number (p .number) (p .place), n)));
+        keeps = refl;
       }
 
-  pub days-met : p .number ≡ 0 → ReadMet s lent (Days (p .days)) filled
+  pub days-met : p .number ≡ 0 → ReadMet s lent (Days (p .days)) filled s
   days-met z =
       let e = clean (f .reached) z in
       let v : verdict s lent ≡ none = rw (fit lent l) e in
@@ -94,4 +95,5 @@ module _ {s : List ℕ} {lent filled : Account} {p : Progress} (l : Long lent) (
         places = sym (ap faultPlace v);
         returns = f .reached .days-are z ∙ sym (ap (λ (x : Fault). cond (eqb (faultNumber x) 0) (daysOf s) 0) v);
         fills = f .fills z ∙ sym (rw (fit lent l) (ap (λ (x : Fault). cond (eqb (faultNumber x) 0) (full (named s)) (zeros lent)) e));
+        keeps = refl;
       }

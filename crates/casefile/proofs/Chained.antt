@@ -11,9 +11,9 @@ use Rattle.account.specs.Account.{account, badSpan}
 use Rattle.casefile.specs.declared.sections.Progress.{Progress}
 use Rattle.casefile.specs.Bytes.{number16}
 use Rattle.casefile.specs.Case.{profileOf, weekdayOf, daysOf, readingsPlace, readingCount, readingPlace, cutsPlace, cutCount, endOf}
-use Rattle.casefile.specs.Faults.{Fault, none, refused, _before_, fault, firstFault, early, readingFault, cutFault, faultOf}
+use Rattle.casefile.specs.Faults.{Fault, none, refused, _before_, fault, firstFault, early, readingFault, cutFault, faultOf, headFault, meansFault, readingsFault, cutsFault}
 use Rattle.casefile.specs.Reader.{filled}
-use Rattle.casefile.specs.Sections.{headFault, meansFault, readingsFault, cutsFault, spanFault, filedFault, Reached, Clear, ReadingsAsked, ReadingsFrom, Filed, CutsAsked, CutsFrom, Closed, told, SpanMet, FillMet}
+use Rattle.casefile.specs.Sections.{spanFault, filedFault, Reached, Clear, ReadingsAsked, ReadingsFrom, Filed, CutsAsked, CutsFrom, Closed, told, SpanMet, FillMet}
 use Rattle.casefile.proofs.Faults.{before-assoc, met, stops, passes, none-both, none-before, clean, stays, joins}
 use Rattle.casefile.proofs.Filed.{cuts-kept, cuts-counts}
 use Rattle.casefile.proofs.Items.{sane}
@@ -77,20 +77,9 @@ module _ {s : List ℕ} {at : ℕ} {so-far : Progress} {marks counts : List ℕ}
           }
 
 -- the faults of the sections, one after the other, are the file's
-assoc-six : (a b c d e f x : Fault) → ((a before b before c before d before e before f) before x) ≡ (a before b before c before d before e before f before x)
-assoc-six (refused n k) b c d e f x = refl
-assoc-six none (refused n k) c d e f x = refl
-assoc-six none none (refused n k) d e f x = refl
-assoc-six none none none (refused n k) e f x = refl
-assoc-six none none none none (refused n k) f x = refl
-assoc-six none none none none none f x = refl
-
 pub in-order : (s : List ℕ) → (filedFault s before cutsFault s) ≡ faultOf s
 in-order s =
-    before-assoc (spanFault s) (readingsFault s) (cutsFault s) ∙
-    before-assoc (headFault s 0) (meansFault s) (readingsFault s before cutsFault s) ∙
-    ap (λ (x : Fault). headFault s 0 before meansFault s before x) (before-assoc (early s (readingsPlace s + 2)) (firstFault (readingFault s) (readingCount s)) (cutsFault s)) ∙
-    assoc-six (early s 1) (fault (ltb 9 (profileOf s)) 1 0) (early s 2) (fault (ltb 6 (weekdayOf s)) 2 1) (early s 4) (fault (badSpan (daysOf s)) 3 2) _
+    before-assoc (spanFault s) (readingsFault s) (cutsFault s) ∙ before-assoc (headFault s 0) (meansFault s) (readingsFault s before cutsFault s)
 
 -- readings without a fault end within the file
 readings-end : (s : List ℕ) (i : ℕ) → readingPlace s 0 ≤ length s → firstFault (readingFault s) i ≡ none → readingPlace s i ≤ length s

@@ -14,8 +14,8 @@ use Rattle.account.specs.Boundaries.{some}
 use Rattle.account.specs.Account.{badSpan, energyMost}
 use Rattle.casefile.specs.Bytes.{little, number16, number64, signed}
 use Rattle.casefile.specs.Case.{meanCount, meanPlace, daysOf, readingsPlace, readingCount, readingPlace, readingBoundary, readingValue, cutsPlace, cutCount, cutPlace, cutBoundary, endOf}
-use Rattle.casefile.specs.Faults.{Fault, none, refused, _before_, fault, firstFault, early, falls, meanFault, readingFault, cutFault, faultOf}
-use Rattle.casefile.specs.Sections.{headFault, meansFault, readingsFault, cutsFault, spanFault, filedFault}
+use Rattle.casefile.specs.Faults.{Fault, none, refused, _before_, fault, firstFault, early, falls, meanFault, readingFault, cutFault, faultOf, headFault, meansFault, readingsFault, cutsFault}
+use Rattle.casefile.specs.Sections.{spanFault, filedFault}
 use Rattle.casefile.specs.Length.{fileMost, bytesRead, EnoughBytes}
 use Rattle.casefile.proofs.Faults.{none-both, passes}
 use Rattle.casefile.proofs.Chained.{in-order}

@@ -72,6 +72,17 @@ none-before f (suc m) i l e = go (none-before f m i) (none-both (firstFault f m)
         let same : i ≡ m = omega arith in
         rw same (n .1)
 
+pub first-few : (f : ℕ → Fault) (m i : ℕ) → i < m → firstFault f m ≡ none → firstFault f i ≡ none
+unfolding firstFault
+first-few f zero i l e = absurd (omega arith)
+first-few f (suc m) i l e = go (first-few f m i) (none-both (firstFault f m) (f m) e .0) (decLt i m)
+  where
+    go : (i < m → firstFault f m ≡ none → firstFault f i ≡ none) → firstFault f m ≡ none → Dec (i < m) → firstFault f i ≡ none
+    go earlier n (yes h) = earlier h n
+    go earlier n (no g) =
+        let same : i ≡ m = omega arith in
+        rw same n
+
 -- the reader's progress over two sections: the first has no fault, or has one and the second is not read
 pub clean : {f : Fault} {n next : ℕ} {p : Progress} → Reached f n next p → p .number ≡ 0 → f ≡ none
 clean {p = p} r z = sym (r .tells) ∙ ap (λ (n : ℕ). told n (p .place)) z

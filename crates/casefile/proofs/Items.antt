@@ -17,7 +17,7 @@ use Rattle.casefile.specs.Case.{daysOf, readingPlace, readingBoundary, r
 use Rattle.casefile.specs.Faults.{none, firstFault, falls, readingFault}
 use Rattle.casefile.specs.Reader.{full}
 use Rattle.casefile.specs.declared.readings.Reading.{Reading}
-use Rattle.casefile.specs.Sections.{told, itemFault, ItemMet}
+use Rattle.casefile.specs.Sections.{told, countFault, itemFault, CountedMet, ItemMet}
 use Rattle.casefile.proofs.Faults.{first-more, passes, no-fault}
 use Rattle.casefile.proofs.Filed.{filled-set, readings-kept, uncut}
 
@@ -27,6 +27,10 @@ stored l e z = omega (arith, ap (λ (q : Reading). q .number) e)
 pub item-stops : {s : List ℕ} {at low n first last number place : ℕ} {r : Reading} → 0 < number → r ≡ record { number = number; place = place; boundary = 0; count = 0 }
     → told number place ≡ itemFault s at low n first last → ItemMet s at low n first last r
 item-stops l e t = record { tells = rw e t; boundary-is = λ z. absurd (stored l e z); count-is = λ z. absurd (stored l e z) }
+
+pub counted-stops : {s : List ℕ} {at boundary first last number place : ℕ} {r : Reading} → 0 < number → r ≡ record { number = number; place = place; boundary = 0; count = 0 }
+    → told number place ≡ countFault s at first last → CountedMet s at boundary first last r
+counted-stops l e t = record { tells = rw e t; boundary-is = λ z. absurd (stored l e z); count-is = λ z. absurd (stored l e z) }
 
 -- the least boundary that rises, and the count of the reading before; at the first reading 0, and its own count
 abbrev pub above : (ℕ → ℕ) → ℕ → ℕ

@@ -1,11 +1,11 @@
 -- Little-endian numbers of two halves (Case file). Assumes nothing.
-use Prim.Native.Nat.{ℕ, zero, suc, _+_, _*_, _-_, _≤_, _<_}
-use mathlib.Core.Path.{_≡_, refl, ap}
+use Prim.Native.Nat.{ℕ, suc, _+_, _*_, _-_, _≤_, _<_}
+use mathlib.Core.Path.{_≡_, ap}
 use mathlib.Core.List.{List}
 use native.Mathlib.Omega.{arith}
 use native.Mathlib.Nat.{add-assoc}
 use borrow.Author.Tests.{le-ltb}
-use lib.IntN.{pos, negsuc, negℤ, _-ℤ_}
+use lib.IntN.{pos, negsuc, negℤ}
 use Rattle.casefile.specs.Bytes.{little, signed}
 
 pub halves4 : (s : List ℕ) (at : ℕ) → little 4 s at ≡ little 2 s at + 65536 * little 2 s (at + 2)
@@ -15,11 +15,6 @@ halves4 s at = simp add-assoc (omega arith)
 pub halves8 : (s : List ℕ) (at : ℕ) → little 8 s at ≡ little 4 s at + 4294967296 * little 4 s (at + 4)
 unfolding little
 halves8 s at = simp add-assoc (omega arith)
-
--- one less than the negative of n
-pub less-one : (n : ℕ) → negsuc 0 -ℤ pos n ≡ negsuc n
-less-one zero = refl
-less-one (suc n) = ap negsuc (omega arith)
 
 -- the upper half of the 16-bit numbers
 pub upper : (n : ℕ) → 32768 ≤ n → n < 65536 → signed n ≡ negsuc (65535 - n)

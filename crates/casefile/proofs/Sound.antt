@@ -10,22 +10,25 @@ use borrow.Author.Tests.{ltb-true, ltb-false, le-ltb, le-leb, eq-eqb, eqb-true}
 use lib.Dec.{ltb, eqb}
 use lib.ListN.{length, getD, length-replicate}
 use Rattle.profile.specs.Limits.{weightLeast, weightMost, spanMost}
-use Rattle.weights.specs.Weights.{weightsOf, weights-length, Ready}
+use Rattle.weights.specs.Weights.{weightsOf, Ready}
+use Rattle.weights.proofs.Span.{weights-length}
 use Rattle.weights.proofs.Table.{weights-bounded}
 use Rattle.account.specs.Boundaries.{some}
 use Rattle.account.specs.Stands.{Stands, Readings, nothing, withReading, lastLessFirst}
 use Rattle.account.specs.Account.{Account, days, shown, unfit, sound, goodWeights, energyMost}
-use Rattle.account.specs.Table.{outOfOrder, tooMuch, readingRows}
+use Rattle.account.specs.Table.{outOfOrder, tooMuch, readingRows, cutRows}
 use Rattle.account.specs.Calls.{cleared}
 use Rattle.account.proofs.Boundaries.{clash, refuted, both, none-at, none-is, first-found, last-found}
 use Rattle.account.proofs.Readings.{every-is}
+use Rattle.account.proofs.Sound.{sound-parts}
 use Rattle.account.proofs.Rows.{Checked}
 use Rattle.account.proofs.Keeps.{Holds, open-keeps, reading-keeps, cut-keeps}
-use Rattle.casefile.specs.Case.{profileOf, weekdayOf, meanCount, meansOf, daysOf, readingsPlace, readingCount, readingBoundary, readingValue, cutsPlace, cutCount, cutPlace, cutBoundary, emptyCase, withReadings, withCuts, named}
-use Rattle.casefile.specs.Faults.{none, firstFault, falls, readingFault, cutFault, faultOf}
+use Rattle.casefile.specs.Case.{profileOf, weekdayOf, meanCount, meansOf, daysOf, readingsPlace, readingCount, readingBoundary, readingValue, cutsPlace, cutCount, cutPlace, cutBoundary, endOf, emptyCase, withReadings, withCuts, named}
+use Rattle.casefile.specs.Faults.{none, fault, firstFault, falls, readingFault, cutFault, faultOf, headFault, meansFault, readingsFault, cutsFault}
 use Rattle.casefile.proofs.Items.{above, before, rises, Sane, sane}
-use Rattle.casefile.specs.Sections.{headFault, meansFault, readingsFault, cutsFault, spanFault, filedFault}
-use Rattle.casefile.proofs.Faults.{none-both, no-fault, passes}
+use Rattle.casefile.specs.Sections.{spanFault, filedFault}
+use Rattle.casefile.specs.Reader.{CaseSound, CaseTaken}
+use Rattle.casefile.proofs.Faults.{none-both, no-fault, passes, none-before, first-few}
 use Rattle.casefile.proofs.Filed.{Kept, readings-kept, cuts-kept, uncut}
 use Rattle.casefile.proofs.Chained.{span-none, in-order}
 use Rattle.casefile.proofs.Weighing.{GoodSpan, head-none, means-in, means-length}
@@ -171,34 +174,77 @@ record Cut (s : List ℕ) (i : ℕ) : Type 0 where
   checked : Checked (withCuts s i)
   below : (j : ℕ) → shown (withCuts s i) .cut j ≡ true → j < above (cutBoundary s) i
 
+-- a cut without a fault rises and lies in the span
+pub record SaneCut (s : List ℕ) (i : ℕ) : Type 0 where
+  pub rising : falls (cutBoundary s) i ≡ false
+  pub inside : cutBoundary s i ≤ daysOf s
+
+pub sane-cut : (s : List ℕ) (i : ℕ) → cutFault s i ≡ none → SaneCut s i
+sane-cut s i e =
+    let f1 = passes (ltb (length s) (cutPlace s i + 2)) 13 (length s) _ e in
+    let f2 = passes (falls (cutBoundary s) i) 13 (cutPlace s i) _ (f1 .1) in
+    record { rising = f2 .0; inside = ltb-false _ _ (no-fault (ltb (daysOf s) (cutBoundary s i)) 6 (cutPlace s i) (f2 .1)) }
+
+-- cut i, where the first i are put in and it has no fault, is one that the call takes
+cut-taken : (s : List ℕ) (i : ℕ) → Cut s i → cutFault s i ≡ none →
+    (cutRows (days (withCuts s i)) (shown (withCuts s i)) (cutBoundary s i) ≡ 0) × (above (cutBoundary s) i ≤ cutBoundary s i)
+cut-taken s i p f =
+    let a = withCuts s i in
+    let b = cutBoundary s i in
+    let c = sane-cut s i f in
+    let up = climbs (cutBoundary s) i (c .rising) in
+    let free = refuted (shown a .cut b) (λ t. omega (arith, p .below b t)) in
+    (simp (le-ltb (days a) b (omega (arith, days-kept s a (cuts-kept s i), c .inside)), free), up)
+
 cuts-sound : (s : List ℕ) → Read s (readingCount s) → (i : ℕ) → firstFault (cutFault s) i ≡ none → Cut s i
 unfolding withCuts firstFault
 cuts-sound s r zero f = record { checked = r .checked; below = λ j t. absurd (clash t (uncut s (readingCount s) j)) }
 cuts-sound s r (suc i) f =
     let n = none-both (firstFault (cutFault s) i) (cutFault s i) f in
     let p = cuts-sound s r i (n .0) in
-    let a = withCuts s i in
-    let b = cutBoundary s i in
-    let f1 = passes (ltb (length s) (cutPlace s i + 2)) 13 (length s) _ (n .1) in
-    let f2 = passes (falls (cutBoundary s) i) 13 (cutPlace s i) _ (f1 .1) in
-    let inside = ltb-false (daysOf s) b (no-fault (ltb (daysOf s) b) 6 (cutPlace s i) (f2 .1)) in
-    let up = climbs (cutBoundary s) i (f2 .0) in
-    let free = refuted (shown a .cut b) (λ t. omega (arith, p .below b t)) in
-    let h = cut-keeps a (p .checked) b (simp (le-ltb (days a) b (omega (arith, days-kept s a (cuts-kept s i))), free)) in
-    record { checked = h .checked; below = λ j t. next j up (p .below j) (eqb j b) refl (ap (λ (st : Stands). st .cut j) (sym (h .shows)) ∙ t) }
+    let (taken, up) = cut-taken s i p (n .1) in
+    let h = cut-keeps (withCuts s i) (p .checked) (cutBoundary s i) taken in
+    record { checked = h .checked; below = λ j t. next j up (p .below j) (eqb j (cutBoundary s i)) refl (ap (λ (st : Stands). st .cut j) (sym (h .shows)) ∙ t) }
   where
     next : (j : ℕ) → above (cutBoundary s) i ≤ cutBoundary s i → (shown (withCuts s i) .cut j ≡ true → j < above (cutBoundary s) i) → (t : Bool) → eqb j (cutBoundary s i) ≡ t
         → cond t true (shown (withCuts s i) .cut j) ≡ true → j < cutBoundary s i + 1
     next j up old true e h = omega (arith, eqb-true j (cutBoundary s i) e)
     next j up old false e h = omega (arith, old h)
 
--- a file that the reader takes gives an account that every account call finds fitting and sound
-pub case-sound : (s : List ℕ) → faultOf s ≡ none → (unfit (named s) ≡ false) × (sound (named s) ≡ true)
-case-sound s e =
+-- the parts of a file without a fault have none
+pub record Clean (s : List ℕ) : Type 0 where
+  pub span : spanFault s ≡ none
+  pub readings : firstFault (readingFault s) (readingCount s) ≡ none
+  pub cuts : firstFault (cutFault s) (cutCount s) ≡ none
+  pub ended : fault (ltb (endOf s) (length s)) 13 (endOf s) ≡ none
+
+pub clean-of : (s : List ℕ) → faultOf s ≡ none → Clean s
+clean-of s e =
     let f = none-both (filedFault s) (cutsFault s) (in-order s ∙ e) in
     let g = none-both (spanFault s) (readingsFault s) (f .0) in
     let r = passes (ltb (length s) (readingsPlace s + 2)) 13 (length s) _ (g .1) in
     let c = passes (ltb (length s) (cutsPlace s + 2)) 13 (length s) _ (f .1) in
     let d = none-both (firstFault (cutFault s) (cutCount s)) _ (c .1) in
-    let k = cuts-sound s (readings-sound s (g .0) (readingCount s) (r .1)) (cutCount s) (d .0) in
-    (k .checked .fits, k .checked .sound)
+    record { span = g .0; readings = r .1; cuts = d .0; ended = d .1 }
+
+pub case-sound : CaseSound
+case-sound s e =
+    let c = clean-of s e in
+    let k = cuts-sound s (readings-sound s (c .span) (readingCount s) (c .readings)) (cutCount s) (c .cuts) in
+    (k .checked .fits, k .checked .sound, days-kept s (named s) (cuts-kept s (cutCount s)))
+
+pub case-taken : CaseTaken
+case-taken s e =
+    let c = clean-of s e in
+    let start = empty-holds s (c .span) in
+    let all = readings-sound s (c .span) (readingCount s) (c .readings) in (
+      rw (start .checked .fits, sound-parts (emptyCase s) (start .checked .sound) .weights) refl,
+      λ i l.
+          let r = readings-sound s (c .span) i (first-few (readingFault s) (readingCount s) i l (c .readings)) in
+          let g = sane s i (none-before (readingFault s) (readingCount s) i l (c .readings)) in
+          let a = withReadings s i in
+          rw (r .checked .fits, r .checked .sound) (reading-taken (days a) (shown a) (r .orderly) g (days-kept s a (readings-kept s i))),
+      λ i l.
+          let p = cuts-sound s all i (first-few (cutFault s) (cutCount s) i l (c .cuts)) in
+          rw (p .checked .fits, p .checked .sound) (cut-taken s i p (none-before (cutFault s) (cutCount s) i l (c .cuts)) .0),
+    )

@@ -8,8 +8,8 @@ use lib.ListN.{length}
 use Rattle.profile.specs.Limits.{inRange}
 use Rattle.account.specs.Boundaries.{some}
 use Rattle.account.specs.Account.{badSpan, energyMost}
-use Rattle.casefile.specs.Bytes.{signed16}
-use Rattle.casefile.specs.Case.{profileOf, weekdayOf, meanCount, meanPlace, daysOf, readingsPlace, readingCount, readingPlace, readingBoundary, readingValue, cutsPlace, cutCount, cutPlace, cutBoundary, endOf}
+use Rattle.casefile.specs.Bytes.{byte, number16, signed16}
+use Rattle.casefile.specs.Case.{meanCount, meanPlace, daysOf, readingsPlace, readingCount, readingPlace, readingBoundary, readingValue, cutsPlace, cutCount, cutPlace, cutBoundary, endOf}
 
 -- no fault, or a refusal with its number and its place
 pub data Fault : Type 0 where
@@ -61,18 +61,29 @@ cutFault s i =
     fault (falls (cutBoundary s) i) 13 (cutPlace s i) before
     fault (ltb (daysOf s) (cutBoundary s i)) 6 (cutPlace s i)
 
--- the first fault of a file, front to back
-abbrev pub faultOf : List ℕ → Fault
-faultOf s =
-    early s 1 before
-    fault (ltb 9 (profileOf s)) 1 0 before
-    early s 2 before
-    fault (ltb 6 (weekdayOf s)) 2 1 before
-    early s 4 before
-    fault (badSpan (daysOf s)) 3 2 before
-    firstFault (meanFault s) (meanCount s) before
-    early s (readingsPlace s + 2) before
-    firstFault (readingFault s) (readingCount s) before
+-- the first fault of each section: profile, weekday and the count of means, which begin the file at offset 0 ..
+abbrev pub headFault : List ℕ → ℕ → Fault
+headFault s at =
+    early s (at + 1) before
+    fault (ltb 9 (byte s at)) 1 at before
+    early s (at + 2) before
+    fault (ltb 6 (byte s (at + 1))) 2 (at + 1) before
+    early s (at + 4) before
+    fault (badSpan (number16 s (at + 2) - 3)) 3 (at + 2)
+
+-- .. the means, the readings, and the cuts with the end of the file
+abbrev pub meansFault : List ℕ → Fault
+meansFault s = firstFault (meanFault s) (meanCount s)
+
+abbrev pub readingsFault : List ℕ → Fault
+readingsFault s = early s (readingsPlace s + 2) before firstFault (readingFault s) (readingCount s)
+
+abbrev pub cutsFault : List ℕ → Fault
+cutsFault s =
     early s (cutsPlace s + 2) before
     firstFault (cutFault s) (cutCount s) before
     fault (ltb (endOf s) (length s)) 13 (endOf s)
+
+-- the first fault of a file, front to back
+abbrev pub faultOf : List ℕ → Fault
+faultOf s = headFault s 0 before meansFault s before readingsFault s before cutsFault s

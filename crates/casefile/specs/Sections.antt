@@ -14,36 +14,13 @@ use Rattle.casefile.specs.declared.sections.Progress.{Progress}
 use Rattle.casefile.specs.declared.readings.Reading.{Reading}
 use Rattle.casefile.specs.Bytes.{byte, number16, number64}
 use Rattle.casefile.specs.Case.{meanCount, meansOf, daysOf, readingsPlace, readingCount, readingPlace, cutsPlace, cutCount, cutPlace, endOf, emptyCase, withReadings, named}
-use Rattle.casefile.specs.Faults.{Fault, none, refused, _before_, fault, firstFault, early, meanFault, readingFault, cutFault, faultOf}
+use Rattle.casefile.specs.Faults.{Fault, none, refused, _before_, fault, early, headFault, meansFault, readingsFault, faultOf}
 use Rattle.casefile.specs.Reader.{full}
 
 -- the fault that a number and its place tell; 0 is none
 abbrev pub told : ℕ → ℕ → Fault
 told zero place = none
 told (suc number) place = refused (suc number) place
-
--- the first fault of each section: profile, weekday and the count of means at an offset, which is 0 ..
-abbrev pub headFault : List ℕ → ℕ → Fault
-headFault s at =
-    early s (at + 1) before
-    fault (ltb 9 (byte s at)) 1 at before
-    early s (at + 2) before
-    fault (ltb 6 (byte s (at + 1))) 2 (at + 1) before
-    early s (at + 4) before
-    fault (badSpan (number16 s (at + 2) - 3)) 3 (at + 2)
-
--- .. and the means, the readings, the cuts
-abbrev pub meansFault : List ℕ → Fault
-meansFault s = firstFault (meanFault s) (meanCount s)
-
-abbrev pub readingsFault : List ℕ → Fault
-readingsFault s = early s (readingsPlace s + 2) before firstFault (readingFault s) (readingCount s)
-
-abbrev pub cutsFault : List ℕ → Fault
-cutsFault s =
-    early s (cutsPlace s + 2) before
-    firstFault (cutFault s) (cutCount s) before
-    fault (ltb (endOf s) (length s)) 13 (endOf s)
 
 -- the first fault up to the end of the means, and of the readings
 abbrev pub spanFault : List ℕ → Fault
@@ -83,14 +60,25 @@ pub record SpanMet (s : List ℕ) (p : Progress) (weights : List ℕ) : Type 0 w
   pub reached : Reached (spanFault s) (daysOf s) (readingsPlace s) p
   pub weighed : p .number ≡ 0 → weights ≡ full (emptyCase s) .weights
 
--- a reading at an offset, where boundaries below `low` fail to rise, the count before it is `last` and the first one `first`
+-- a reading's count, where the count before it is `last` and the first one `first`
+abbrev pub countFault : List ℕ → ℕ → ℕ → ℕ → Fault
+countFault s at first last =
+    fault (ltb (number64 s (at + 2)) last) 8 (at + 2) before
+    fault (ltb energyMost (number64 s (at + 2) - first)) 9 (at + 2)
+
+-- a reading at an offset, where boundaries below `low` fail to rise
 abbrev pub itemFault : List ℕ → ℕ → ℕ → ℕ → ℕ → ℕ → Fault
 itemFault s at low n first last =
     early s (at + 10) before
     fault (ltb (number16 s at) low) 13 at before
     fault (ltb n (number16 s at)) 6 at before
-    fault (ltb (number64 s (at + 2)) last) 8 (at + 2) before
-    fault (ltb energyMost (number64 s (at + 2) - first)) 9 (at + 2)
+    countFault s at first last
+
+-- the reading at an offset with this boundary, or the fault of its count
+pub record CountedMet (s : List ℕ) (at boundary first last : ℕ) (r : Reading) : Type 0 where
+  pub tells : told (r .number) (r .place) ≡ countFault s at first last
+  pub boundary-is : r .number ≡ 0 → r .boundary ≡ boundary
+  pub count-is : r .number ≡ 0 → r .count ≡ number64 s (at + 2)
 
 -- the reading at an offset, or its fault
 pub record ItemMet (s : List ℕ) (at low n first last : ℕ) (r : Reading) : Type 0 where

@@ -26,7 +26,7 @@ pub fn read_case(
     marks: &mut [u8],
     counts: &mut [u64],
 ) -> CaseAnswer
-    ensures { λ r. ⌜ ReadMet (now (file .entry)) (account (now (weights .entry)) (now (marks .entry)) (now (counts .entry))) r (account (now (weights .exit)) (now (marks .exit)) (now (counts .exit))) ⌝ }
+    ensures { λ r. ⌜ ReadMet (now (file .entry)) (account (now (weights .entry)) (now (marks .entry)) (now (counts .entry))) r (account (now (weights .exit)) (now (marks .exit)) (now (counts .exit))) (now (file .exit)) ⌝ }
 {
     if weights.len() != Profile::SPAN {
         return CaseAnswer::Refused(3, 0);

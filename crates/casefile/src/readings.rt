@@ -5,15 +5,13 @@ ghost use lib.ListN.{length};
 ghost use Rattle.casefile.specs.Bytes.{number64};
 ghost use Rattle.casefile.specs.Case.{readingCount};
 ghost use Rattle.casefile.specs.Faults.{firstFault, readingFault};
-ghost use Rattle.casefile.specs.Sections.{ItemMet, ReadingsAsked, ReadingsFrom, Filed, filedFault};
+ghost use Rattle.casefile.specs.Sections.{ItemMet, CountedMet, ReadingsAsked, ReadingsFrom, Filed, filedFault};
 use crate::bytes::number16;
 use crate::bytes::number64;
 use crate::sections::Progress;
 use crate::sections::passed;
 use crate::sections::refused;
-
-// "Last less first at most 2,000,000,000", in Wh.
-const ENERGY_MOST: u64 = 2_000_000_000;
+use account::ENERGY_MOST;
 
 // One reading of the file, or its fault.
 pub(crate) struct Reading {
@@ -50,6 +48,14 @@ fn reading_at(file: &[u8], at: usize, low: usize, days: usize, first: u64, last:
     if days < boundary {
         return bad(6, at);
     }
+    counted(file, at, boundary, first, last)
+}
+
+// The reading at an offset whose boundary has no fault.
+fn counted(file: &[u8], at: usize, boundary: usize, first: u64, last: u64) -> Reading
+    requires { ⌜ (at + 10 ≤ length (now file)) × (first ≤ last) ⌝ }
+    ensures { λ r. ⌜ CountedMet (now (file .entry)) at boundary first last r ⌝ }
+{
     let count = number64(file, at + 2);
     if count < last {
         return bad(8, at + 2);

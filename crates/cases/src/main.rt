@@ -1,19 +1,17 @@
 // The example files (Case file): each file that an argument names, its name and then the text that `arvadush` prints for it.
+use layout::TEXT_MOST;
 use libc::STDOUT_FILENO;
 use profile::Profile;
-
-const FILE: usize = 16_384;
-
-const TEXT: usize = 73_728;
+use report::FILE_READ;
 
 // The text of the file that can be read here.
 fn print_case(fd: i32) {
-    let mut file = [0u8; FILE];
+    let mut file = [0u8; FILE_READ];
     let length = io::read_full(fd, &mut file);
     let mut weights = [0u32; Profile::SPAN];
     let mut marks = [0u8; Profile::SPAN + 1];
     let mut counts = [0u64; Profile::SPAN + 1];
-    let mut text = [0u8; TEXT];
+    let mut text = [0u8; TEXT_MOST];
     let n = report::case_text(
         &file[..length],
         &mut weights,

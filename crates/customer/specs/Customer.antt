@@ -1,14 +1,15 @@
 -- Customer value and daily amount: "The customer value, in units of 0.1 Wh, is nearest(energy × 10^7 / Z), energy in Wh, Z the sum of
 -- the lent weights. The daily amount is nearest(value × weight / 10^7) Wh."
-use Prim.Native.Nat.{ℕ, _+_, _*_}
+use Prim.Native.Nat.{ℕ, _*_}
 use mathlib.Core.Path.{_≡_}
 use mathlib.Core.Bool.{cond, not}
-use mathlib.Core.List.{List, [], _∷_}
+use mathlib.Core.List.{List}
 use lib.Dec.{eqb, ltb}
 use lib.ListN.{length}
 use Rattle.rounding.specs.Nearest.{nearest}
 use Rattle.account.specs.Account.{badSpan, goodWeight, goodWeights, energyMost}
 use Rattle.profile.specs.Rows.{row}
+use Rattle.profile.specs.Table.{sumOf}
 use Rattle.customer.specs.declared.CustomerAnswer.{CustomerAnswer}
 use Rattle.customer.specs.declared.CustomerAnswer.the-variants.{Given, Unfit, Unsound, TooMuch, TooGreat}
 
@@ -27,11 +28,7 @@ value Unsound = 0
 value TooMuch = 0
 value TooGreat = 0
 
--- Z
-unfoldable pub sumOf : List ℕ → ℕ
-sumOf [] = 0
-sumOf (x ∷ xs) = x + sumOf xs
-
+-- Z is the sum of w
 abbrev pub customerValue : ℕ → List ℕ → ℕ
 customerValue energy w = nearest (energy * 10_000_000) (sumOf w)
 
@@ -57,9 +54,10 @@ amountRows v weight =
     (row (ltb valueMost v) 12
     0)
 
-pub record CustomerMet (energy : ℕ) (w : List ℕ) (answer : CustomerAnswer) : Type 0 where
+pub record CustomerMet (energy : ℕ) (w : List ℕ) (answer : CustomerAnswer) (after : List ℕ) : Type 0 where
   pub answers : number answer ≡ customerRows energy w
   pub values : value answer ≡ cond (eqb (customerRows energy w) 0) (customerValue energy w) 0
+  pub stays : after ≡ w
 
 pub record AmountMet (v weight : ℕ) (answer : CustomerAnswer) : Type 0 where
   pub answers : number answer ≡ amountRows v weight

@@ -2,12 +2,13 @@
 ghost use mathlib.Core.Path.{_≡_};
 ghost use Prim.Native.Nat.{_≤_};
 ghost use lib.ListN.{length};
-ghost use Rattle.customer.specs.Customer.{CustomerMet, AmountMet, sumOf};
+ghost use Rattle.profile.specs.Limits.{spanMost};
+ghost use Rattle.profile.specs.Table.{sumOf};
+ghost use Rattle.customer.specs.Customer.{CustomerMet, AmountMet};
+use account::ENERGY_MOST;
 use profile::Profile;
 
-// The largest energy in Wh and the largest customer value in 0.1 Wh.
-const ENERGY_MOST: u64 = 2_000_000_000;
-
+// The largest customer value, in 0.1 Wh.
 const VALUE_MOST: u64 = 1_000_000_000_000;
 
 const UNITS: u64 = 10_000_000;
@@ -23,7 +24,7 @@ pub enum CustomerAnswer {
 
 // Z: the sum of the weights.
 fn total(weights: &[u32]) -> u64
-    requires { ⌜ length (now weights) ≤ 1096 ⌝ }
+    requires { ⌜ length (now weights) ≤ spanMost ⌝ }
     ensures { λ r. ⌜ r ≡ sumOf (now (weights .entry)) ⌝ }
 {
     let mut sum: u64 = 0;
@@ -37,7 +38,7 @@ fn total(weights: &[u32]) -> u64
 
 // The customer value of this energy in Wh over these weights, in units of 0.1 Wh.
 pub fn customer_value(energy: u64, weights: &[u32]) -> CustomerAnswer
-    ensures { λ r. ⌜ CustomerMet energy (now (weights .entry)) r ⌝ }
+    ensures { λ r. ⌜ CustomerMet energy (now (weights .entry)) r (now (weights .exit)) ⌝ }
 {
     let n = weights.len();
     if n == 0 {

@@ -22,7 +22,7 @@ long s k e = leb-true k (length s) (both (leb k (length s)) _ e .0)
 abbrev pub alone : Bool → Bool → ℕ → ℕ
 alone outside serving k = row outside 0 (row serving k 0)
 
-pub length-alone : (s r : RefT (List ℤ)) (n : ℕ) → ChooseMet s s n r → length (r .now) ≡ alone (not (spans n)) (serves (s .now) (n + 3)) (n + 3)
+pub length-alone : (s r : RefT (List ℤ)) (n : ℕ) {after : List ℤ} → ChooseMet s s n r after after → length (r .now) ≡ alone (not (spans n)) (serves (s .now) (n + 3)) (n + 3)
 length-alone s r n met = ap length (met .means-are) ∙ go (not (spans n)) (serves (s .now) (n + 3)) (long (s .now) (n + 3))
   where
     go :

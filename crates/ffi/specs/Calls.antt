@@ -13,8 +13,7 @@ use Rattle.profile.specs.Value.{valueLow, valueHigh}
 use Rattle.profile.specs.Weight.{weightOf, floorWeight}
 use Rattle.profile.specs.Answers.{accepted, valueRefusal, weightRefusal, Enclosed}
 use Rattle.profile.specs.Rows.{row}
-use Rattle.weights.specs.Means.{firstOut, someOut}
-use Rattle.weights.specs.Temperature.{four, temperatureOf}
+use Rattle.weights.specs.Temperature.{temperatureNumber, temperaturePlace, temperatureValue}
 use Rattle.weights.specs.Choose.{spans, serves}
 use Rattle.weights.specs.Weights.{outcome, Bounded}
 use Rattle.account.specs.Account.{Account, days, shown}
@@ -29,11 +28,15 @@ use Rattle.ffi.specs.declared.Temperature.{Temperature}
 use Rattle.ffi.specs.declared.Values.{Values}
 use Rattle.ffi.specs.declared.Chosen.{Chosen}
 
+-- the number, the place and the value that a call returns
+abbrev pub told : ℕ → ℕ → ℕ → Outcome
+told number place value = record { number = number; place = place; value = value }
+
 -- ---- Temperature of a day
 pub record TemperatureMet (a b c d : ℤ) (r : Temperature) : Type 0 where
-  pub number-is : r .number ≡ row (someOut (four a b c d)) 4 0
-  pub place-is : r .place ≡ row (someOut (four a b c d)) (firstOut (four a b c d)) 0
-  pub value-is : r .value ≡ row (someOut (four a b c d)) (pos 0) (temperatureOf a b c d)
+  pub number-is : r .number ≡ temperatureNumber a b c d
+  pub place-is : r .place ≡ temperaturePlace a b c d
+  pub value-is : r .value ≡ temperatureValue a b c d
 
 -- of which series the chooser returns a part, 0 being the empty part
 abbrev pub seriesOf : List ℤ → List ℤ → ℕ → ℕ
@@ -43,9 +46,11 @@ seriesOf measured forecast n =
     (row (serves forecast (n + 3)) 2
     0))
 
-pub record ChooseMet (measured forecast : List ℤ) (n : ℕ) (r : Chosen) : Type 0 where
+pub record ChooseMet (measured forecast : List ℤ) (n : ℕ) (r : Chosen) (measuredAfter forecastAfter : List ℤ) : Type 0 where
   pub series-is : r .series ≡ seriesOf measured forecast n
   pub means-are : r .means ≡ cond (eqb (seriesOf measured forecast n) 0) 0 (n + 3)
+  pub measured-stays : measuredAfter ≡ measured
+  pub forecast-stays : forecastAfter ≡ forecast
 
 -- ---- Profile value
 pub record ValueMet (k : ℕ) (t : ℤ) (r : Values) : Type 0 where
@@ -63,12 +68,13 @@ pub record WeightMet (k weekday : ℕ) (t : ℤ) (r : Outcome) : Type 0 where
   pub least : weightRefusal k weekday t ≡ 0 → weightLeast ≤ r .value
   pub most : weightRefusal k weekday t ≡ 0 → r .value ≤ weightMost
 
-pub record WeightsMet (profile weekday : ℕ) (means : List ℤ) (before : List ℕ) (r : Outcome) (after : List ℕ) : Type 0 where
+pub record WeightsMet (profile weekday : ℕ) (means : List ℤ) (before : List ℕ) (r : Outcome) (after : List ℕ) (meansAfter : List ℤ) : Type 0 where
   pub number-is : r .number ≡ outcome profile weekday means before .number
   pub place-is : r .place ≡ outcome profile weekday means before .place
   pub value-is : r .value ≡ 0
   pub after-is : after ≡ outcome profile weekday means before .memory
   pub bounded : r .number ≡ 0 → Bounded after
+  pub means-stay : meansAfter ≡ means
 
 -- ---- Account and its calls: the number that the table gives, and the account after the call, `done` where the number is 0
 pub record AccountMet (table : Account → ℕ) (done : Account → Account) (before : Account) (r : ℕ) (after : Account) : Type 0 where
@@ -83,10 +89,11 @@ pub record StatementMet (before : Account) (lent : Outputs) (r : Outcome) (after
   pub writes : out ≡ left (statementNumber before lent) (written (days before) (parts (before .weights) (shown before))) lent
 
 -- ---- Customer value and daily amount
-pub record CustomerMet (energy : ℕ) (w : List ℕ) (r : Outcome) : Type 0 where
+pub record CustomerMet (energy : ℕ) (w : List ℕ) (r : Outcome) (after : List ℕ) : Type 0 where
   pub answers : r .number ≡ customerRows energy w
   pub place : r .place ≡ 0
   pub values : r .value ≡ cond (eqb (customerRows energy w) 0) (customerValue energy w) 0
+  pub stays : after ≡ w
 
 pub record AmountMet (v weight : ℕ) (r : Outcome) : Type 0 where
   pub answers : r .number ≡ amountRows v weight
@@ -94,8 +101,9 @@ pub record AmountMet (v weight : ℕ) (r : Outcome) : Type 0 where
   pub values : r .value ≡ cond (eqb (amountRows v weight) 0) (dailyAmount v weight) 0
 
 -- ---- Case file
-pub record ReadMet (file : List ℕ) (lent : Account) (r : Outcome) (after : Account) : Type 0 where
+pub record ReadMet (file : List ℕ) (lent : Account) (r : Outcome) (after : Account) (kept : List ℕ) : Type 0 where
   pub numbers : r .number ≡ faultNumber (verdict file lent)
   pub places : r .place ≡ faultPlace (verdict file lent)
   pub returns : r .value ≡ cond (eqb (faultNumber (verdict file lent)) 0) (daysOf file) 0
   pub fills : after ≡ slicesAfter file lent
+  pub keeps : kept ≡ file

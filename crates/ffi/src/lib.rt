@@ -2,28 +2,17 @@
 // include/arvadush.h declares them.
 mod returned;
 
-use returned::case_days;
-use returned::case_number;
-use returned::case_place;
-use returned::customer_number;
-use returned::customer_value;
-use returned::statement_number;
-use returned::statement_parts;
 use returned::temperature_number;
 use returned::temperature_place;
 use returned::temperature_value;
 use returned::value_high;
 use returned::value_low;
 use returned::value_number;
-use returned::weight_number;
-use returned::weight_value;
-use returned::weights_number;
-use returned::weights_place;
 ghost use Rattle.account.specs.Account.{account};
 ghost use Rattle.account.specs.Calls.{cleared, readingPut, readingTaken, cutPut, cutTaken};
 ghost use Rattle.account.specs.Table.{openNumber, readingNumber, withdrawNumber, cutNumber, uncutNumber};
 ghost use Rattle.statement.specs.Parts.{outputs};
-ghost use Rattle.layout.specs.Text.{LaidOut, statementText, refusalText};
+ghost use Rattle.layout.specs.Text.{LaidOut, TextMet, statementText, refusalText};
 ghost use Rattle.ffi.specs.Calls.{TemperatureMet, ChooseMet, ValueMet, WeightMet, WeightsMet, AccountMet, StatementMet, CustomerMet, AmountMet, ReadMet};
 
 // The table's number (0 is done), the place or index that goes with it, and the value; 0 where there is none.
@@ -74,7 +63,7 @@ pub extern "C" fn arvadush_temperature(a: i16, b: i16, c: i16, d: i16) -> Temper
 // The means of a span of n days: which series serves, and its first n + 3 means; none where neither does.
 #[no_mangle]
 pub extern "C" fn arvadush_choose<'a>(measured: &'a [i16], forecast: &'a [i16], n: usize) -> Chosen
-    ensures { λ r. ⌜ ChooseMet (now (measured .entry)) (now (forecast .entry)) n r ⌝ }
+    ensures { λ r. ⌜ ChooseMet (now (measured .entry)) (now (forecast .entry)) n r (now (measured .exit)) (now (forecast .exit)) ⌝ }
 {
     let first = weights::choose(measured, measured, n).len();
     if first != 0 {
@@ -115,12 +104,7 @@ pub extern "C" fn arvadush_value(profile: u8, t: i16) -> Values
 pub extern "C" fn arvadush_day_weight(profile: u8, weekday: u8, t: i16) -> Outcome
     ensures { λ r. ⌜ WeightMet profile weekday t r ⌝ }
 {
-    let answer = profile::day_weight(profile, weekday, t);
-    Outcome {
-        number: weight_number(answer),
-        place: 0,
-        value: weight_value(answer),
-    }
+    returned::weight(profile::day_weight(profile, weekday, t))
 }
 
 // The weight of each day of a span, from its means, oldest first, and the weekday of day 0.
@@ -131,14 +115,9 @@ pub extern "C" fn arvadush_weights(
     means: &[i16],
     out: &mut [u32],
 ) -> Outcome
-    ensures { λ r. ⌜ WeightsMet profile weekday (now (means .entry)) (now (out .entry)) r (now (out .exit)) ⌝ }
+    ensures { λ r. ⌜ WeightsMet profile weekday (now (means .entry)) (now (out .entry)) r (now (out .exit)) (now (means .exit)) ⌝ }
 {
-    let answer = weights::weights(profile, weekday, means, out);
-    Outcome {
-        number: weights_number(answer),
-        place: weights_place(answer),
-        value: 0,
-    }
+    returned::weights(weights::weights(profile, weekday, means, out))
 }
 
 // Clears marks and counts, whatever they held.
@@ -204,25 +183,15 @@ pub extern "C" fn arvadush_statement(
 ) -> Outcome
     ensures { λ r. ⌜ StatementMet (account (now (weights .entry)) (now (marks .entry)) (now (counts .entry))) (outputs (now (from .entry)) (now (to .entry)) (now (wh .entry))) r (account (now (weights .exit)) (now (marks .exit)) (now (counts .exit))) (outputs (now (from .exit)) (now (to .exit)) (now (wh .exit))) ⌝ }
 {
-    let answer = statement::statement(weights, marks, counts, from, to, wh);
-    Outcome {
-        number: statement_number(answer),
-        place: 0,
-        value: statement_parts(answer),
-    }
+    returned::statement(statement::statement(weights, marks, counts, from, to, wh))
 }
 
 // The customer value of this energy in Wh over these weights, in units of 0.1 Wh.
 #[no_mangle]
 pub extern "C" fn arvadush_customer_value(energy: u64, weights: &[u32]) -> Outcome
-    ensures { λ r. ⌜ CustomerMet energy (now (weights .entry)) r ⌝ }
+    ensures { λ r. ⌜ CustomerMet energy (now (weights .entry)) r (now (weights .exit)) ⌝ }
 {
-    let answer = customer::customer_value(energy, weights);
-    Outcome {
-        number: customer_number(answer),
-        place: 0,
-        value: customer_value(answer),
-    }
+    returned::customer(customer::customer_value(energy, weights))
 }
 
 // The Wh of a day with this weight for a customer with this value.
@@ -230,12 +199,7 @@ pub extern "C" fn arvadush_customer_value(energy: u64, weights: &[u32]) -> Outco
 pub extern "C" fn arvadush_daily_amount(value: u64, weight: u32) -> Outcome
     ensures { λ r. ⌜ AmountMet value weight r ⌝ }
 {
-    let answer = customer::daily_amount(value, weight);
-    Outcome {
-        number: customer_number(answer),
-        place: 0,
-        value: customer_value(answer),
-    }
+    returned::customer(customer::daily_amount(value, weight))
 }
 
 // Reads a case file into the slices of an account, of lengths 1,096, 1,097 and 1,097, the rest zero; its value is n.
@@ -246,14 +210,9 @@ pub extern "C" fn arvadush_read(
     marks: &mut [u8],
     counts: &mut [u64],
 ) -> Outcome
-    ensures { λ r. ⌜ ReadMet (now (file .entry)) (account (now (weights .entry)) (now (marks .entry)) (now (counts .entry))) r (account (now (weights .exit)) (now (marks .exit)) (now (counts .exit))) ⌝ }
+    ensures { λ r. ⌜ ReadMet (now (file .entry)) (account (now (weights .entry)) (now (marks .entry)) (now (counts .entry))) r (account (now (weights .exit)) (now (marks .exit)) (now (counts .exit))) (now (file .exit)) ⌝ }
 {
-    let answer = casefile::read_case(file, weights, marks, counts);
-    Outcome {
-        number: case_number(answer),
-        place: case_place(answer),
-        value: case_days(answer),
-    }
+    returned::case(casefile::read_case(file, weights, marks, counts))
 }
 
 // The text of a statement of so many parts, at the start of out; the length of the whole text.
@@ -265,7 +224,7 @@ pub extern "C" fn arvadush_statement_text(
     parts: usize,
     out: &mut [u8],
 ) -> usize
-    ensures { λ r. ⌜ LaidOut 0 (statementText (outputs (now (from .entry)) (now (to .entry)) (now (wh .entry))) parts) (now (out .entry)) r (now (out .exit)) ⌝ }
+    ensures { λ r. ⌜ TextMet (statementText (outputs (now (from .entry)) (now (to .entry)) (now (wh .entry))) parts) (now (out .entry)) r (now (out .exit)) (outputs (now (from .entry)) (now (to .entry)) (now (wh .entry))) (outputs (now (from .exit)) (now (to .exit)) (now (wh .exit))) ⌝ }
 {
     layout::statement_text(from, to, wh, parts, out)
 }

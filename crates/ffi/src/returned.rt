@@ -1,4 +1,5 @@
 // Each answer of the calls below as the paper's number (0 is done), its place and its values (If a call declines).
+use crate::Outcome;
 use casefile::CaseAnswer;
 use customer::CustomerAnswer;
 use profile::ValueAnswer;
@@ -8,6 +9,7 @@ use weights::TemperatureAnswer;
 use weights::WeightsAnswer;
 ghost use mathlib.Core.Path.{_≡_};
 ghost use Rattle.profile.specs.Answers.{valueNumber, lowGiven, highGiven, weightNumber, weightGiven};
+ghost use Rattle.ffi.specs.Calls.{told};
 ghost use Rattle.weights.specs.Temperature as four;
 ghost use Rattle.weights.specs.Weights as span;
 ghost use Rattle.statement.specs.Call as call;
@@ -71,121 +73,137 @@ pub(crate) fn value_high(answer: ValueAnswer) -> i64
     }
 }
 
-pub(crate) fn weight_number(answer: WeightAnswer) -> u8
-    ensures { λ r. ⌜ r ≡ weightNumber answer ⌝ }
+pub(crate) fn weight(answer: WeightAnswer) -> Outcome
+    ensures { λ r. ⌜ r ≡ told (weightNumber answer) 0 (weightGiven answer) ⌝ }
 {
     match answer {
-        WeightAnswer::Weight(_) => 0,
-        WeightAnswer::NoProfile => 1,
-        WeightAnswer::NoWeekday => 2,
-        WeightAnswer::OutOfRange => 4,
+        WeightAnswer::Weight(w) => Outcome {
+            number: 0,
+            place: 0,
+            value: w as u64,
+        },
+        WeightAnswer::NoProfile => Outcome {
+            number: 1,
+            place: 0,
+            value: 0,
+        },
+        WeightAnswer::NoWeekday => Outcome {
+            number: 2,
+            place: 0,
+            value: 0,
+        },
+        WeightAnswer::OutOfRange => Outcome {
+            number: 4,
+            place: 0,
+            value: 0,
+        },
     }
 }
 
-pub(crate) fn weight_value(answer: WeightAnswer) -> u64
-    ensures { λ r. ⌜ r ≡ weightGiven answer ⌝ }
+pub(crate) fn weights(answer: WeightsAnswer) -> Outcome
+    ensures { λ r. ⌜ r ≡ told (span.number answer) (span.place answer) 0 ⌝ }
 {
     match answer {
-        WeightAnswer::Weight(w) => w as u64,
-        WeightAnswer::NoProfile => 0,
-        WeightAnswer::NoWeekday => 0,
-        WeightAnswer::OutOfRange => 0,
+        WeightsAnswer::Done => Outcome {
+            number: 0,
+            place: 0,
+            value: 0,
+        },
+        WeightsAnswer::Unfit => Outcome {
+            number: 3,
+            place: 0,
+            value: 0,
+        },
+        WeightsAnswer::NoProfile => Outcome {
+            number: 1,
+            place: 0,
+            value: 0,
+        },
+        WeightsAnswer::NoWeekday => Outcome {
+            number: 2,
+            place: 0,
+            value: 0,
+        },
+        WeightsAnswer::OutOfRange(k) => Outcome {
+            number: 4,
+            place: k,
+            value: 0,
+        },
     }
 }
 
-pub(crate) fn weights_number(answer: WeightsAnswer) -> u8
-    ensures { λ r. ⌜ r ≡ span.number answer ⌝ }
+pub(crate) fn statement(answer: StatementAnswer) -> Outcome
+    ensures { λ r. ⌜ r ≡ told (call.number answer) 0 (call.partCount answer) ⌝ }
 {
     match answer {
-        WeightsAnswer::Done => 0,
-        WeightsAnswer::Unfit => 3,
-        WeightsAnswer::NoProfile => 1,
-        WeightsAnswer::NoWeekday => 2,
-        WeightsAnswer::OutOfRange(_) => 4,
+        StatementAnswer::Parts(parts) => Outcome {
+            number: 0,
+            place: 0,
+            value: parts as u64,
+        },
+        StatementAnswer::Unfit => Outcome {
+            number: 3,
+            place: 0,
+            value: 0,
+        },
+        StatementAnswer::Unsound => Outcome {
+            number: 5,
+            place: 0,
+            value: 0,
+        },
+        StatementAnswer::TooFewReadings => Outcome {
+            number: 11,
+            place: 0,
+            value: 0,
+        },
     }
 }
 
-pub(crate) fn weights_place(answer: WeightsAnswer) -> usize
-    ensures { λ r. ⌜ r ≡ span.place answer ⌝ }
+pub(crate) fn customer(answer: CustomerAnswer) -> Outcome
+    ensures { λ r. ⌜ r ≡ told (customer.number answer) 0 (customer.value answer) ⌝ }
 {
     match answer {
-        WeightsAnswer::Done => 0,
-        WeightsAnswer::Unfit => 0,
-        WeightsAnswer::NoProfile => 0,
-        WeightsAnswer::NoWeekday => 0,
-        WeightsAnswer::OutOfRange(k) => k,
+        CustomerAnswer::Given(v) => Outcome {
+            number: 0,
+            place: 0,
+            value: v,
+        },
+        CustomerAnswer::Unfit => Outcome {
+            number: 3,
+            place: 0,
+            value: 0,
+        },
+        CustomerAnswer::Unsound => Outcome {
+            number: 5,
+            place: 0,
+            value: 0,
+        },
+        CustomerAnswer::TooMuch => Outcome {
+            number: 9,
+            place: 0,
+            value: 0,
+        },
+        CustomerAnswer::TooGreat => Outcome {
+            number: 12,
+            place: 0,
+            value: 0,
+        },
     }
 }
 
-pub(crate) fn statement_number(answer: StatementAnswer) -> u8
-    ensures { λ r. ⌜ r ≡ call.number answer ⌝ }
+pub(crate) fn case(answer: CaseAnswer) -> Outcome
+    ensures { λ r. ⌜ r ≡ told (reader.number answer) (reader.place answer) (reader.days answer) ⌝ }
 {
     match answer {
-        StatementAnswer::Parts(_) => 0,
-        StatementAnswer::Unfit => 3,
-        StatementAnswer::Unsound => 5,
-        StatementAnswer::TooFewReadings => 11,
-    }
-}
-
-pub(crate) fn statement_parts(answer: StatementAnswer) -> u64
-    ensures { λ r. ⌜ r ≡ call.partCount answer ⌝ }
-{
-    match answer {
-        StatementAnswer::Parts(n) => n as u64,
-        StatementAnswer::Unfit => 0,
-        StatementAnswer::Unsound => 0,
-        StatementAnswer::TooFewReadings => 0,
-    }
-}
-
-pub(crate) fn customer_number(answer: CustomerAnswer) -> u8
-    ensures { λ r. ⌜ r ≡ customer.number answer ⌝ }
-{
-    match answer {
-        CustomerAnswer::Given(_) => 0,
-        CustomerAnswer::Unfit => 3,
-        CustomerAnswer::Unsound => 5,
-        CustomerAnswer::TooMuch => 9,
-        CustomerAnswer::TooGreat => 12,
-    }
-}
-
-pub(crate) fn customer_value(answer: CustomerAnswer) -> u64
-    ensures { λ r. ⌜ r ≡ customer.value answer ⌝ }
-{
-    match answer {
-        CustomerAnswer::Given(v) => v,
-        CustomerAnswer::Unfit => 0,
-        CustomerAnswer::Unsound => 0,
-        CustomerAnswer::TooMuch => 0,
-        CustomerAnswer::TooGreat => 0,
-    }
-}
-
-pub(crate) fn case_number(answer: CaseAnswer) -> u8
-    ensures { λ r. ⌜ r ≡ reader.number answer ⌝ }
-{
-    match answer {
-        CaseAnswer::Days(_) => 0,
-        CaseAnswer::Refused(number, _) => number,
-    }
-}
-
-pub(crate) fn case_place(answer: CaseAnswer) -> usize
-    ensures { λ r. ⌜ r ≡ reader.place answer ⌝ }
-{
-    match answer {
-        CaseAnswer::Days(_) => 0,
-        CaseAnswer::Refused(_, place) => place,
-    }
-}
-
-pub(crate) fn case_days(answer: CaseAnswer) -> u64
-    ensures { λ r. ⌜ r ≡ reader.days answer ⌝ }
-{
-    match answer {
-        CaseAnswer::Days(n) => n as u64,
-        CaseAnswer::Refused(_, _) => 0,
+        CaseAnswer::Days(days) => Outcome {
+            number: 0,
+            place: 0,
+            value: days as u64,
+        },
+        CaseAnswer::Refused(number, place) => Outcome {
+            number: number,
+            place: place,
+            value: 0,
+        },
     }
 }

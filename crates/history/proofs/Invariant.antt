@@ -1,21 +1,25 @@
 -- What holds of the account all along a run (Account and its calls): it fits, is sound, has the weights that open was given, and shows
 -- what stands. Every call keeps that, refused or not. Assumes nothing.
-use Prim.Native.Nat.{ℕ}
+use Prim.Native.Nat.{ℕ, zero, suc, _≤_}
 use mathlib.Core.Path.{_≡_, refl, sym, _∙_, subst₂}
 use mathlib.Core.Bool.{Bool, true, false, cond}
 use mathlib.Core.List.{List, [], _∷_, _++_, map}
-use lib.Dec.{eqb}
-use lib.ListN.{length}
-use borrow.Author.Tests.{eqb-true}
+use lib.Dec.{eqb, leb}
+use lib.ListN.{length, getD}
+use borrow.Author.Tests.{eqb-true, leb-true}
+use native.Mathlib.Omega.{arith}
 use Rattle.account.specs.Stands.{Stands, nothing}
-use Rattle.account.specs.Account.{Account, days, shown}
+use Rattle.account.specs.Account.{Account, days, shown, markOf, marksReading, marksCut, goodMarks}
 use Rattle.account.specs.Table.{accountRows, readingRows, withdrawRows, cutRows, uncutRows}
 use Rattle.account.specs.Calls.{readingPut, readingTaken, cutPut, cutTaken}
+use Rattle.account.proofs.Boundaries.{every-at}
+use Rattle.account.proofs.Sound.{fit, sound-parts}
 use Rattle.account.proofs.Rows.{Checked}
 use Rattle.account.proofs.Keeps.{Holds, reading-keeps, withdraw-keeps, cut-keeps, uncut-keeps}
 use Rattle.history.specs.History.{after, ifAccepted, standsFrom}
 use Rattle.history.specs.Run.{Event, Step, Run, call, left, answered, tableSays, standing}
 use Rattle.history.specs.Run as run
+use Rattle.history.specs.Demand3.{Carries}
 
 same : (a : Account) → Checked a → Holds (a .weights) (shown a) a
 same a f = record { checked = f; weighs = refl; shows = refl }
@@ -57,12 +61,35 @@ unfolding standsFrom
 snoc n s [] e = refl
 snoc n s (c ∷ before) e = snoc n (after n s (call c)) before e
 
--- the account after a call shows what then stands
+-- a mark from 0 to 3 is the one for the reading and the cut that it shows
+mark-shows : (m : ℕ) → m ≤ 3 → m ≡ markOf (marksReading m) (marksCut m)
+mark-shows zero small = refl
+mark-shows (suc zero) small = refl
+mark-shows (suc (suc zero)) small = refl
+mark-shows (suc (suc (suc zero))) small = refl
+mark-shows (suc (suc (suc (suc m)))) small = absurd (omega arith)
+
+-- a sound account has the slices of what it shows
+carries : (a : Account) → Checked a → Carries (a .weights) (shown a) a
+unfolding goodMarks
+carries a f =
+    let lengths = fit a (f .fits) in
+    record {
+      weighs = refl;
+      marks-long = lengths .marks;
+      counts-long = lengths .counts;
+      mark-is =
+          λ k h. mark-shows (getD (a .marks) k 0)
+          (leb-true (getD (a .marks) k 0) 3 (every-at (λ j. leb (getD (a .marks) j 0) 3) (suc (days a)) (sound-parts a (f .sound) .marks) k (omega arith)));
+      count-is = λ k h. refl;
+    }
+
+-- the slices after a call are those of what then stands
 pub leaves-standing : (w : List ℕ) (before : List Event) (a : Account) (e : Event) → Holds w (standing w before) a → Step a e →
-    (left e .weights ≡ w) × (shown (left e) ≡ standing w (before ++ (e ∷ [])))
+    Carries w (standing w (before ++ (e ∷ []))) (left e)
 leaves-standing w before a e holds met =
     let next = steps w (standing w before) a e holds met in
-    (next .weighs, next .shows ∙ sym (snoc (length w) nothing before e))
+    subst₂ (λ v s. Carries v s (left e)) (next .weighs) (next .shows ∙ sym (snoc (length w) nothing before e)) (carries (left e) (next .checked))
 
 -- a call's answer is what the table, applied to what the account shows, says
 answers : (a : Account) (e : Event) → Checked a → Step a e → answered e ≡ tableSays (days a) (shown a) e

@@ -4,19 +4,13 @@ use Prim.Native.Nat.{ℕ, _+_, _≤_, _<_}
 use mathlib.Core.Path.{_≡_, _∙_}
 use mathlib.Core.Bool.{true}
 use mathlib.Core.List.{List}
-use lib.IntN.{ℤ}
 use lib.ListN.{length, getD}
 use borrow.Author.Tests.{le-leb, eq-eqb}
 use Rattle.profile.specs.Limits.{weightLeast, weightMost, spanMost}
-use Rattle.weights.specs.declared.WeightsAnswer.{WeightsAnswer}
-use Rattle.weights.specs.Weights.{WeightsMet, Bounded}
-use Rattle.weights.specs.Weights as weights
-use Rattle.account.specs.declared.Answer.{Answer}
-use Rattle.account.specs.Account.{Account, account, goodWeight, goodWeights}
-use Rattle.account.specs.Calls.{OpenMet}
+use Rattle.weights.specs.Weights.{Bounded}
+use Rattle.account.specs.Account.{account, goodWeight, goodWeights}
 use Rattle.account.proofs.Readings.{every-is}
-use Rattle.history.specs.Run.{Event, Run}
-use Rattle.history.specs.Demand3.{Demand3, OverWeights}
+use Rattle.history.specs.Demand3.{OverWeights, ClaimOverWeights}
 use Rattle.history.proofs.Theorem.{demand3}
 
 bounded-good : (w : List ℕ) → Bounded w → goodWeights w ≡ true
@@ -26,7 +20,7 @@ bounded-good w b =
     (λ d h. let (least, most) = b .each d h in rw (le-leb weightLeast (getD w d 0) least, le-leb (getD w d 0) weightMost most))
 
 pub opens : OverWeights
-opens profile weekday means lent given w met done marks counts fit-marks fit-counts =
+opens profile weekday means lent given w kept met done marks counts fit-marks fit-counts =
     let b = met .bounded done in
     rw (
       le-leb 1 (length w) (b .some),
@@ -36,10 +30,7 @@ opens profile weekday means lent given w met done marks counts fit-marks fit-cou
       bounded-good w b,
     )
 
-module _ (profile weekday : ℕ) (means : List ℤ) (lent : List ℕ) (given : WeightsAnswer) (w : List ℕ)
-    (met : WeightsMet profile weekday means lent given w) (done : weights.number given ≡ 0)
-    (marks counts : List ℕ) (fit-marks : length marks ≡ length w + 1) (fit-counts : length counts ≡ length w + 1) where
-  pub demand3-over-weights : (opening : Answer) (opened : Account) → OpenMet (account w marks counts) opening opened →
-      (es : List Event) → Run opened es → Demand3 w es
-  demand3-over-weights opening opened is es runs =
-      demand3 (account w marks counts) opened opening is (is .answers ∙ opens profile weekday means lent given w met done marks counts fit-marks fit-counts) es runs
+pub demand3-over-weights : ClaimOverWeights
+demand3-over-weights profile weekday means lent given w kept met done marks counts fit-marks fit-counts answer opened is es runs =
+    demand3 (account w marks counts) opened answer is
+    (is .answers ∙ opens profile weekday means lent given w kept met done marks counts fit-marks fit-counts) es runs

@@ -16,8 +16,9 @@ use Rattle.statement.specs.declared.StatementAnswer.the-variants.{Parts}
 use Rattle.statement.specs.Parts.{Outputs, parts, written}
 use Rattle.statement.specs.Call as statements
 use Rattle.statement.specs.Call.{StatementMet, unfitOutputs}
-use Rattle.statement.proofs.Order.{Fair, fair-of-sound}
-use Rattle.statement.proofs.Facts.{TwoRead, sums-up, shared, same-energy}
+use Rattle.statement.specs.Facts.{Fair, TwoRead}
+use Rattle.statement.proofs.Order.{fair-of-sound}
+use Rattle.statement.proofs.Facts.{sums-up, shared, same-energy}
 use Rattle.history.specs.Run.{Event, Step, Run, standing}
 use Rattle.history.specs.Run as run
 use Rattle.history.specs.Demand3.{Demand3, Claim, Among, Given}

@@ -68,5 +68,5 @@ statement-is κs a r s = refl
 -- and the weights of `Opens` are those of the weights call
 pub weights-is : (κs : Lifetimes.Lfts 2) (a : Kinds.Dens κs weights-kinds.ps) (r : _) (s : _) →
     weights-reads.Post κs a r s ≡
-    WeightsMet (a .0) (a .1 .0) (now (a .1 .1 .0)) (now (a .1 .1 .1 .0)) r (now (s .1 .1 .1 .0))
+    WeightsMet (a .0) (a .1 .0) (now (a .1 .1 .0)) (now (a .1 .1 .1 .0)) r (now (s .1 .1 .1 .0)) (now (s .1 .1 .0))
 weights-is κs a r s = refl

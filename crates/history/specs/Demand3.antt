@@ -9,11 +9,11 @@ use lib.ListN.{length, getD}
 use Rattle.weights.specs.declared.WeightsAnswer.{WeightsAnswer}
 use Rattle.weights.specs.Weights.{WeightsMet}
 use Rattle.weights.specs.Weights as weights
-use Rattle.account.specs.Account.{Account, account, shown}
+use Rattle.account.specs.Account.{Account, account, markOf}
 use Rattle.account.specs.Table.{openNumber}
 use Rattle.account.specs.declared.Answer.{Answer}
 use Rattle.account.specs.Calls.{OpenMet, number}
-use Rattle.account.specs.Stands.{lastLessFirst}
+use Rattle.account.specs.Stands.{Stands, lastLessFirst}
 use Rattle.statement.specs.declared.StatementAnswer.the-variants.{Parts}
 use Rattle.statement.specs.Parts.{Outputs, parts, written, marked}
 use Rattle.statement.specs.Shares.{Adjacent, Shared, total, energy}
@@ -30,12 +30,20 @@ Among es before e = (rest : List Event) × (es ≡ before ++ (e ∷ rest))
 abbrev pub Given : List Event → List Event → ℕ → Outputs → Type 0
 Given es before m out = (lent : Outputs) × (left : Account) × Among es before (run.statement lent (Parts m) left out)
 
+-- the account's slices are those that what stands has: its weights, and the marks and counts of boundaries 0 to n and of no others
+pub record Carries (w : List ℕ) (s : Stands) (a : Account) : Type 0 where
+  pub weighs : a .weights ≡ w
+  pub marks-long : length (a .marks) ≡ length w + 1
+  pub counts-long : length (a .counts) ≡ length w + 1
+  pub mark-is : (k : ℕ) → k ≤ length w → getD (a .marks) k 0 ≡ markOf (s .readings .at k) (s .cut k)
+  pub count-is : (k : ℕ) → k ≤ length w → getD (a .counts) k 0 ≡ s .readings .count k
+
 pub record Demand3 (w : List ℕ) (es : List Event) : Type 0 where
   -- "A call is refused exactly when and as the table, applied to what stands, says."
   pub refusals : (before : List Event) (e : Event) → Among es before e → answered e ≡ tableSays (length w) (standing w before) e
-  -- "... and as": what the table says of memory. The account is left as its calls so far make it stand, and a statement's outputs are the
-  -- rule's, zero (11) or untouched (3).
-  pub leaves : (before : List Event) (e : Event) → Among es before e → (left e .weights ≡ w) × (shown (left e) ≡ standing w (before ++ (e ∷ [])))
+  -- "... and as": what the table says of memory. The account's slices are left as its calls so far make it stand, and a statement's
+  -- outputs are the rule's, zero (11) or untouched (3).
+  pub leaves : (before : List Event) (e : Event) → Among es before e → Carries w (standing w (before ++ (e ∷ []))) (left e)
   pub writes : (before : List Event) (lent : Outputs) (answer : StatementAnswer) (a : Account) (out : Outputs) →
       Among es before (run.statement lent answer a out) →
       out ≡ statements.left (statements.number answer) (written (length w) (parts w (standing w before))) lent
@@ -65,10 +73,19 @@ Claim =
     (es : List Event) → Run opened es → Demand3 (before .weights) es
 
 -- "... over weights from demand 2": weights that the weights call gives are ones that open accepts, with any marks and counts of the lengths
--- for them. So the claim holds of every list of calls on them.
+-- for them.
 abbrev pub OverWeights : Type 0
 OverWeights =
-    (profile weekday : ℕ) (means : List ℤ) (lent : List ℕ) (given : WeightsAnswer) (w : List ℕ) →
-    WeightsMet profile weekday means lent given w → weights.number given ≡ 0 →
+    (profile weekday : ℕ) (means : List ℤ) (lent : List ℕ) (given : WeightsAnswer) (w : List ℕ) (kept : List ℤ) →
+    WeightsMet profile weekday means lent given w kept → weights.number given ≡ 0 →
     (marks counts : List ℕ) → length marks ≡ length w + 1 → length counts ≡ length w + 1 →
     openNumber (account w marks counts) ≡ 0
+
+-- so the claim holds of every list of calls on an account over them
+abbrev pub ClaimOverWeights : Type 0
+ClaimOverWeights =
+    (profile weekday : ℕ) (means : List ℤ) (lent : List ℕ) (given : WeightsAnswer) (w : List ℕ) (kept : List ℤ) →
+    WeightsMet profile weekday means lent given w kept → weights.number given ≡ 0 →
+    (marks counts : List ℕ) → length marks ≡ length w + 1 → length counts ≡ length w + 1 →
+    (answer : Answer) (opened : Account) → OpenMet (account w marks counts) answer opened →
+    (es : List Event) → Run opened es → Demand3 w es

@@ -9,7 +9,7 @@ use lib.Seq.{sets}
 use mathlib.Core.Bool.{true, false}
 use Rattle.statement.specs.Parts.{Outputs}
 use Rattle.statement.specs.Shares.{total}
-use Rattle.layout.specs.Text.{LaidOut, noStatement, statementText, partsText}
+use Rattle.layout.specs.Text.{LaidOut, TextMet, noStatement, statementText, partsText}
 
 pub sets-append : (o : List ℕ) (at : ℕ) (xs ys : List ℕ) → sets (sets o at xs) (at + length xs) ys ≡ sets o at (xs ++ ys)
 sets-append o at [] ys = rw add-zero
@@ -30,9 +30,9 @@ then-laid {at} {xs} {o} {m} {p} {ys} one two =
     }
 
 -- what is laid out where there can be no such statement: nothing
-pub none-laid : (o : Outputs) (m : ℕ) (out : List ℕ) → noStatement o m ≡ true → LaidOut 0 (statementText o m) out 0 out
-none-laid o m out no-such = rw no-such (record { ends = refl; stored = refl })
+pub none-laid : (o : Outputs) (m : ℕ) (out : List ℕ) → noStatement o m ≡ true → TextMet (statementText o m) out 0 out o o
+none-laid o m out no-such = rw no-such (record { laid = record { ends = refl; stored = refl }; stays = refl })
 
 pub given-laid : (o : Outputs) (m sum : ℕ) (out : List ℕ) (next : ℕ) (after : List ℕ) →
-    noStatement o m ≡ false → sum ≡ total o m → LaidOut 0 (partsText o m sum) out next after → LaidOut 0 (statementText o m) out next after
-given-laid o m sum out next after such is laid = rw such (rw is at laid)
+    noStatement o m ≡ false → sum ≡ total o m → LaidOut 0 (partsText o m sum) out next after → TextMet (statementText o m) out next after o o
+given-laid o m sum out next after such is text = rw such (record { laid = rw is at text; stays = refl })

@@ -1,3 +1,5 @@
 pub mod Decimal
 pub mod Laid
 mod Sums
+pub mod Texts
+pub mod Fits

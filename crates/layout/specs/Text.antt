@@ -4,7 +4,7 @@ use Prim.Native.Nat.{ℕ, zero, suc, _+_, _/_}
 use mathlib.Core.Path.{_≡_}
 use mathlib.Core.Bool.{Bool, cond, _||_}
 use mathlib.Core.List.{List, [], _∷_, _++_}
-use lib.Dec.{ltb}
+use lib.Dec.{ltb, eqb}
 use lib.ListN.{length, getD}
 use lib.Seq.{sets}
 use Rattle.io.specs.Digits.{digits}
@@ -47,9 +47,10 @@ unfoldable pub partLines : Outputs → ℕ → List ℕ
 partLines o zero = []
 partLines o (suc m) = partLines o m ++ lineOf (getD (o .from) m 0) (getD (o .to) m 0) (getD (o .wh) m 0)
 
--- no statement is like this: more parts than days, or than an output holds, or a part above 2,000,000,000 Wh
+-- no statement is like this: no part, more than 1,096 or than an output holds, or a part above 2,000,000,000 Wh
 abbrev pub noStatement : Outputs → ℕ → Bool
 noStatement o m =
+    eqb m 0 ||
     ltb spanMost m ||
     ltb (length (o .from)) m ||
     ltb (length (o .to)) m ||
@@ -64,6 +65,10 @@ partsText o m sum = partsWord ++ decimal m ++ lineFeed ++ partLines o m ++ sumWo
 abbrev pub statementText : Outputs → ℕ → List ℕ
 statementText o m = cond (noStatement o m) [] (partsText o m (total o m))
 
+-- the one line of a refusal
+abbrev pub refusalText : ℕ → ℕ → List ℕ
+refusalText number place = refusedWord ++ decimal number ++ space ++ decimal place ++ lineFeed
+
 -- `done`, and `unknown` with the number of a line: what the console prints besides
 abbrev pub doneText : List ℕ
 doneText = 100 ∷ 111 ∷ 110 ∷ 101 ∷ lineFeed
@@ -71,10 +76,13 @@ doneText = 100 ∷ 111 ∷ 110 ∷ 101 ∷ lineFeed
 abbrev pub unknownText : ℕ → List ℕ
 unknownText line = 117 ∷ 110 ∷ 107 ∷ 110 ∷ 111 ∷ 119 ∷ 110 ∷ 32 ∷ decimal line ++ lineFeed
 
-abbrev pub refusalText : ℕ → ℕ → List ℕ
-refusalText number place = refusedWord ++ decimal number ++ space ++ decimal place ++ lineFeed
-
 -- a text laid out in a lent slice from an offset on: the offset after it is returned, as much of it as fits is stored, the rest is untouched
 pub record LaidOut (at : ℕ) (text before : List ℕ) (next : ℕ) (after : List ℕ) : Type 0 where
   pub ends : next ≡ at + length text
   pub stored : after ≡ sets before at text
+
+module _ {A : Type 0} where
+  -- such a text at the start of a slice, what it is made of being lent and unchanged
+  pub record TextMet (text before : List ℕ) (next : ℕ) (after : List ℕ) (lent kept : A) : Type 0 where
+    pub laid : LaidOut 0 text before next after
+    pub stays : kept ≡ lent

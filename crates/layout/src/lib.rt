@@ -1,21 +1,27 @@
-// The text of a statement and of a refusal, laid out in a lent buffer (Case file, the program's output).
+// The text of a statement, of a refusal and of an account, laid out in a lent buffer (Case file, the program's output).
 mod put;
 
+use account::ENERGY_MOST;
+use profile::Profile;
+use statement::StatementAnswer;
 ghost use mathlib.Core.Path.{_≡_};
 ghost use mathlib.Core.Bool.{false};
 ghost use mathlib.Core.List.{List};
 ghost use Prim.Native.Nat.{ℕ, _+_, _*_, _<_, _≤_, _^_};
 ghost use lib.Dec.{ltb};
 ghost use lib.ListN.{length, getD};
+ghost use Rattle.profile.specs.Limits.{spanMost};
 ghost use Rattle.account.specs.Boundaries.{some};
-ghost use Rattle.account.specs.Account.{energyMost};
+ghost use Rattle.account.specs.Account.{energyMost, account};
 ghost use Rattle.statement.specs.Parts.{outputs};
 ghost use Rattle.statement.specs.Shares.{total};
-ghost use Rattle.layout.specs.Text.{LaidOut, statementText, refusalText, doneText, unknownText, lineOf, partLines, partsText};
+ghost use Rattle.layout.specs.Text.{LaidOut, TextMet, statementText, refusalText, doneText, unknownText, lineOf, partLines, partsText};
+ghost use Rattle.layout.specs.Accounts.{accountText, answeredText};
 
-const SPAN: usize = profile::Profile::SPAN;
+const SPAN: usize = Profile::SPAN;
 
-const ENERGY_MOST: u64 = 2_000_000_000;
+// No text of a statement or a refusal is longer.
+pub const TEXT_MOST: usize = 72_390;
 
 // The text of a refusal with its number and place, at the start of out.
 pub fn refusal_text(number: u8, place: usize, out: &mut [u8]) -> usize
@@ -46,8 +52,11 @@ pub fn unknown_text(line: usize, out: &mut [u8]) -> usize
 
 // The text of a statement of so many parts, at the start of out; nothing where no statement can be like that.
 pub fn statement_text(from: &[u16], to: &[u16], wh: &[u64], parts: usize, out: &mut [u8]) -> usize
-    ensures { λ r. ⌜ LaidOut 0 (statementText (outputs (now (from .entry)) (now (to .entry)) (now (wh .entry))) parts) (now (out .entry)) r (now (out .exit)) ⌝ }
+    ensures { λ r. ⌜ TextMet (statementText (outputs (now (from .entry)) (now (to .entry)) (now (wh .entry))) parts) (now (out .entry)) r (now (out .exit)) (outputs (now (from .entry)) (now (to .entry)) (now (wh .entry))) (outputs (now (from .exit)) (now (to .exit)) (now (wh .exit))) ⌝ }
 {
+    if parts == 0 {
+        return 0;
+    }
     if SPAN < parts {
         return 0;
     }
@@ -68,7 +77,7 @@ pub fn statement_text(from: &[u16], to: &[u16], wh: &[u64], parts: usize, out: &
 
 // The words, lines and sum of a statement, at the start of out.
 fn parts_text(from: &[u16], to: &[u16], wh: &[u64], parts: usize, sum: u64, out: &mut [u8]) -> usize
-    requires { ⌜ (parts ≤ 1096) × (parts ≤ length (now from)) × (parts ≤ length (now to)) × (parts ≤ length (now wh)) ⌝ }
+    requires { ⌜ (parts ≤ spanMost) × (parts ≤ length (now from)) × (parts ≤ length (now to)) × (parts ≤ length (now wh)) ⌝ }
     ensures { λ r. ⌜ LaidOut 0 (partsText (outputs (now (from .entry)) (now (to .entry)) (now (wh .entry))) parts sum) (now (out .entry)) r (now (out .exit)) ⌝ }
 {
     let at = put::word(out, 0, b"parts ");
@@ -97,7 +106,7 @@ fn part_too_great(wh: &[u64], parts: usize) -> bool
 
 // The sum of the first parts' Wh.
 fn sum_of(wh: &[u64], parts: usize) -> u64
-    requires { ⌜ (parts ≤ length (now wh)) × (parts ≤ 1096) × (some (λ i. ltb energyMost (getD (now wh) i 0)) parts ≡ false) ⌝ }
+    requires { ⌜ (parts ≤ length (now wh)) × (parts ≤ spanMost) × (some (λ i. ltb energyMost (getD (now wh) i 0)) parts ≡ false) ⌝ }
     ensures { λ r. ⌜ ((f t : List ℕ) → r ≡ total (outputs f t (now (wh .entry))) parts) ⌝ }
 {
     let mut sum: u64 = 0;
@@ -125,7 +134,7 @@ fn line(from: u16, to: u16, wh: u64, out: &mut [u8], at: usize) -> usize
 
 // The lines of the first parts from offset at on; the next offset, at most 63 for each part further.
 fn lines(from: &[u16], to: &[u16], wh: &[u64], parts: usize, out: &mut [u8], at: usize) -> usize
-    requires { ⌜ (parts ≤ 1096) × (parts ≤ length (now from)) × (parts ≤ length (now to)) × (parts ≤ length (now wh)) ⌝ }
+    requires { ⌜ (parts ≤ spanMost) × (parts ≤ length (now from)) × (parts ≤ length (now to)) × (parts ≤ length (now wh)) ⌝ }
     requires { ⌜ at ≤ 1000 ⌝ }
     ensures { λ r. ⌜ LaidOut at (partLines (outputs (now (from .entry)) (now (to .entry)) (now (wh .entry))) parts) (now (out .entry)) r (now (out .exit)) ⌝ }
     ensures { λ r. ⌜ r ≤ at + 63 * parts ⌝ }
@@ -137,4 +146,54 @@ fn lines(from: &[u16], to: &[u16], wh: &[u64], parts: usize, out: &mut [u8], at:
         i += 1;
     }
     next
+}
+
+// The statement of an account or its refusal, at the start of out.
+pub fn account_text(weights: &[u32], marks: &[u8], counts: &[u64], out: &mut [u8]) -> usize
+    ensures { λ r. ⌜ TextMet (accountText (account (now (weights .entry)) (now (marks .entry)) (now (counts .entry)))) (now (out .entry)) r (now (out .exit)) (account (now (weights .entry)) (now (marks .entry)) (now (counts .entry))) (account (now (weights .exit)) (now (marks .exit)) (now (counts .exit))) ⌝ }
+{
+    if SPAN < weights.len() {
+        return refusal_text(3, 0, out);
+    }
+    let mut from = [0u16; SPAN];
+    let mut to = [0u16; SPAN];
+    let mut wh = [0u64; SPAN];
+    by_way_of(weights, marks, counts, &mut from, &mut to, &mut wh, out)
+}
+
+// The same, by way of outputs that are long enough.
+fn by_way_of(
+    weights: &[u32],
+    marks: &[u8],
+    counts: &[u64],
+    from: &mut [u16],
+    to: &mut [u16],
+    wh: &mut [u64],
+    out: &mut [u8],
+) -> usize
+    requires { ⌜ (length (now weights) ≤ length (now from)) × (length (now weights) ≤ length (now to)) × (length (now weights) ≤ length (now wh)) ⌝ }
+    ensures { λ r. ⌜ LaidOut 0 (accountText (account (now (weights .entry)) (now (marks .entry)) (now (counts .entry)))) (now (out .entry)) r (now (out .exit)) ⌝ }
+{
+    let n = weights.len();
+    let answer = statement::statement(
+        weights,
+        marks,
+        counts,
+        &mut from[..n],
+        &mut to[..n],
+        &mut wh[..n],
+    );
+    answered(answer, &from[..n], &to[..n], &wh[..n], out)
+}
+
+// What a statement call answered and wrote, as text at the start of out.
+fn answered(answer: StatementAnswer, from: &[u16], to: &[u16], wh: &[u64], out: &mut [u8]) -> usize
+    ensures { λ r. ⌜ LaidOut 0 (answeredText answer (outputs (now (from .entry)) (now (to .entry)) (now (wh .entry)))) (now (out .entry)) r (now (out .exit)) ⌝ }
+{
+    match answer {
+        StatementAnswer::Parts(parts) => statement_text(from, to, wh, parts, out),
+        StatementAnswer::Unfit => refusal_text(3, 0, out),
+        StatementAnswer::Unsound => refusal_text(5, 0, out),
+        StatementAnswer::TooFewReadings => refusal_text(11, 0, out),
+    }
 }

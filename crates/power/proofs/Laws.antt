@@ -7,7 +7,7 @@ use native.Mathlib.Omega.{arith}
 use lib.Dec.{lit<}
 use borrow.Author.Tests.{ne-eqb, le-ltb}
 use Rattle.power.specs.declared.rounded.Rounding.the-variants.{Down, Up}
-use Rattle.power.specs.Power.{one, exponent, cLow, cHigh, pLow, pHigh, AtMost, AtLeast, Encloses, ofRatio, lowerOf, upperOf}
+use Rattle.power.specs.Power.{one, exponent, cLow, cHigh, pLow, pHigh, AtMost, AtLeast, Encloses, Enclosing, ofRatio, lowerOf, upperOf}
 use Rattle.power.proofs.Powers.{pow-cancel}
 use Rattle.power.proofs.Way.{Rounded, below, above, at-most, at-least}
 use Rattle.power.proofs.Quotient.{quotient-rounded}
@@ -65,3 +65,6 @@ module _ (N M C : ℕ) (pos : 0 < M) where
     pub high-one : pHigh N M C ≡ one
     unfolding pHigh
     high-one = rw ratio-one (power-one Up (cLow C))
+
+pub enclosing : Enclosing
+enclosing = enclosed

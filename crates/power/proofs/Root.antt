@@ -10,7 +10,7 @@ use lib.Dec.{ltb}
 use borrow.Author.Tests.{ltb-true, ltb-false}
 use Rattle.power.specs.declared.rounded.Rounding.{Rounding}
 use Rattle.power.specs.declared.rounded.Rounding.the-variants.{Down, Up}
-use Rattle.power.specs.Power.{pick, one, newton, sqrtDown, RootDown, sqrtUp, RootUp, squareRoot}
+use Rattle.power.specs.Power.{pick, one, newton, sqrtDown, RootDown, sqrtUp, RootUp, Roots, squareRoot}
 use Rattle.power.proofs.Way.{Rounded, below, above}
 
 -- with b = a + d, a² + b² is 2ab and d² more
@@ -104,6 +104,12 @@ root-up x = turn (ltb (d * d) x) refl
           high = ltb-false (d * d) x e;
           least = λ (t : ℕ) (h : x ≤ t * t). square-le d t (le-trans (root-down x .low) h);
         }
+
+pub root-up-only : (x s : ℕ) → RootUp x s → s ≡ sqrtUp x
+root-up-only x s r = le-antisymm (r .least (sqrtUp x) (root-up x .high)) (root-up x .least s (r .high))
+
+pub roots : Roots
+roots x = (root-down x, root-up x, root-down-only x, root-up-only x)
 
 pub root-rounded : (way : Rounding) (x : ℕ) → Rounded way (squareRoot way x * squareRoot way x) x
 unfolding squareRoot

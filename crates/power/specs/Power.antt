@@ -20,6 +20,20 @@ unfoldable pub quotient : Rounding → ℕ → ℕ → ℕ
 quotient Down a b = a / b
 quotient Up a b = (a + (b - 1)) / b
 
+-- a / b rounded up, the name under which a profile's values use it
+abbrev pub upward : ℕ → ℕ → ℕ
+upward a b = quotient Up a b
+
+-- "The exponent in units of 2^-24: cLow = floor(C × 2^24 / 10^7), cHigh the same rounded upwards (C in ten-millionths)."
+unfoldable pub exponent : Rounding → ℕ → ℕ
+exponent way C = quotient way (C * 2 ^ 24) (10 ^ 7)
+
+unfoldable pub cLow : ℕ → ℕ
+cLow C = exponent Down C
+
+unfoldable pub cHigh : ℕ → ℕ
+cHigh C = exponent Up C
+
 -- while s * s is above x, s becomes the mean of s and x / s; it falls each time, so s turns are enough
 unfoldable pub newton : (turns x s : ℕ) → ℕ
 newton zero x s = s
@@ -31,7 +45,7 @@ sqrtDown x =
     let s : ℕ = (one + x / one) / 2 in
     newton s x s
 
--- what `sqrtDown x` is, for every x (proofs/Root, `root-down`)
+-- s is the square root of x rounded down
 pub record RootDown (x s : ℕ) : Type 0 where
   pub low : s * s ≤ x
   pub next : x < (s + 1) * (s + 1)
@@ -42,24 +56,20 @@ sqrtUp x =
     let s : ℕ = sqrtDown x in
     pick (ltb (s * s) x) (s + 1) s
 
--- what `sqrtUp x` is, for every x (proofs/Root, `root-up`)
+-- s is the square root of x rounded up
 pub record RootUp (x s : ℕ) : Type 0 where
   pub high : x ≤ s * s
   pub least : (t : ℕ) → x ≤ t * t → s ≤ t
 
+-- for every x these are its roots, and no other number is (proofs/Root, `roots`)
+abbrev pub Roots : Type 0
+Roots =
+    (x : ℕ) → RootDown x (sqrtDown x) × RootUp x (sqrtUp x) ×
+    ((s : ℕ) → RootDown x s → s ≡ sqrtDown x) × ((s : ℕ) → RootUp x s → s ≡ sqrtUp x)
+
 unfoldable pub squareRoot : Rounding → ℕ → ℕ
 squareRoot Down x = sqrtDown x
 squareRoot Up x = sqrtUp x
-
--- "The exponent in units of 2^-24: cLow = floor(C × 2^24 / 10^7), cHigh the same rounded upwards (C in ten-millionths)."
-unfoldable pub exponent : Rounding → ℕ → ℕ
-exponent way C = quotient way (C * 2 ^ 24) (10 ^ 7)
-
-unfoldable pub cLow : ℕ → ℕ
-cLow C = exponent Down C
-
-unfoldable pub cHigh : ℕ → ℕ
-cHigh C = exponent Up C
 
 -- "A product is divided by one."
 unfoldable pub product : Rounding → ℕ → ℕ → ℕ
@@ -85,13 +95,20 @@ climb way (suc k) r p c =
 unfoldable pub power : Rounding → (r c : ℕ) → ℕ
 power way r c = climb way 24 r (raise way (c / 2 ^ 24) r one) (c % 2 ^ 24)
 
+-- "each root and product is rounded down", "each is rounded up"
+abbrev pub powerLow : (r c : ℕ) → ℕ
+powerLow r c = power Down r c
+
+abbrev pub powerHigh : (r c : ℕ) → ℕ
+powerHigh r c = power Up r c
+
 -- "For pLow, r is floor(N × one / M), c is cHigh and each root and product is rounded down"
 unfoldable pub pLow : (N M C : ℕ) → ℕ
-pLow N M C = power Down (quotient Down (N * one) M) (cHigh C)
+pLow N M C = powerLow (quotient Down (N * one) M) (cHigh C)
 
 -- "for pHigh, r is rounded up, c is cLow and each is rounded up"
 unfoldable pub pHigh : (N M C : ℕ) → ℕ
-pHigh N M C = power Up (quotient Up (N * one) M) (cLow C)
+pHigh N M C = powerHigh (quotient Up (N * one) M) (cLow C)
 
 -- "(pLow/one)^(10^7) is at most (N/M)^C, and (pHigh/one)^(10^7) is at least that": over whole numbers, both sides times one^(10^7) × M^C
 unfoldable pub AtMost : (p N M C : ℕ) → Type 0
@@ -103,6 +120,10 @@ AtLeast p N M C = N ^ C * one ^ (10 ^ 7) ≤ p ^ (10 ^ 7) * M ^ C
 pub record Encloses (N M C low high : ℕ) : Type 0 where
   pub below : AtMost low N M C
   pub above : AtLeast high N M C
+
+-- "The enclosing of the power .. proved for the rules themselves, whatever profile" (proofs/Laws, `enclosing`)
+abbrev pub Enclosing : Type 0
+Enclosing = (N M C : ℕ) → 0 < M → N ≤ M → Encloses N M C (pLow N M C) (pHigh N M C)
 
 -- p where N / M is a ratio at most one, and 0 where it is none
 unfoldable pub ofRatio : (N M p : ℕ) → ℕ

@@ -10,10 +10,10 @@ use lib.IntN.{ℤ, pos, negsuc, natAbs, _+ℤ_, _*ℤ_}
 use lib.Signed.{nonNeg, yes-nonNeg, _≤ℤ_, ≤ℤ-refl}
 use mir.Syntax.{w64}
 use mir.Val.{SFits}
-use Rattle.power.specs.Power.{one}
+use Rattle.power.specs.Power.{one, quotient, upward}
 use Rattle.profile.specs.Limits.{inRange, coldest, weightLeast, weightMost, profileCount}
 use Rattle.profile.specs.Table.{profileOf}
-use Rattle.profile.specs.Value.{upward, cold, lowPower, highPower, sLow, sHigh, line, linear, valueLow, valueHigh}
+use Rattle.profile.specs.Value.{cold, lowPower, highPower, sLow, sHigh, line, linear, valueLow, valueHigh}
 use Rattle.profile.specs.Weight.{floorℤ, factorOf, floorWeight, weightOf}
 use Rattle.profile.specs.declared.Profile.{Profile}
 use Rattle.profile.proofs.Integer.{parts, by-parts, less-sum, le-trans, sum-le, scale-le, fall-le, larger-le, floor-le, natural, at-least, at-most, sfits}
@@ -25,6 +25,7 @@ down-le : (x d n : ℕ) → x ≤ n * d → x / d ≤ n
 down-le x d n h = div-le-of-le-mul d (omega arith)
 
 up-le : (x d n : ℕ) → 0 < d → x ≤ n * d → upward x d ≤ n
+unfolding quotient
 up-le x d n p h =
     let below : (x + (d - 1)) / d < n + 1 = div-lt-iff-lt-mul p .1 (omega arith) in
     omega arith

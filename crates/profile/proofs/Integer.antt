@@ -41,6 +41,11 @@ less-neg : (n : ℕ) → Less (negℤ (pos n)) 0 n
 less-neg zero = omega arith
 less-neg (suc n) = omega arith
 
+-- one less than the negative of n
+pub less-one : (n : ℕ) → negsuc 0 -ℤ pos n ≡ negsuc n
+less-one zero = refl
+less-one (suc n) = ap negsuc (omega arith)
+
 pub less-sum : (x y : ℤ) → Less (x +ℤ y) (above x + above y) (below x + below y)
 less-sum (pos a) (pos b) = omega arith
 less-sum (pos a) (negsuc b) = let l = less-sub a (suc b) in omega arith

@@ -9,7 +9,7 @@ use lib.IntN.{ℤ, pos, _+ℤ_, _*ℤ_}
 use lib.ListN.{length, getD}
 use lib.Signed.{leZ, _≤ℤ_}
 use Rattle.profile.specs.Limits.{coldest, warmest, weightLeast, weightMost, profileCount}
-use Rattle.profile.specs.Table.{table, noProfile, profileOf, total}
+use Rattle.profile.specs.Table.{table, noProfile, profileOf, sumOf}
 use Rattle.profile.specs.Value.{linear}
 use Rattle.profile.specs.Weight.{floorℤ}
 use Rattle.profile.specs.declared.Profile.{Profile}
@@ -58,11 +58,11 @@ tested p =
     && (leZ (pos 0) (least p)
     && (leZ (most p) (pos (10 ^ 10))
     && (eqb (length (p .factors)) 7
-    && (eqb (total (p .factors)) 70_000
+    && (eqb (sumOf (p .factors)) 70_000
     && all (weighs p) (p .factors)))))))
 
 all-tested : T (all tested table)
-unfolding tested weighs linear total
+unfolding tested weighs linear sumOf
 all-tested = tt
 
 -- what the test tells of a profile
@@ -72,7 +72,7 @@ pub record Tested (p : Profile) : Type 0 where
   pub water-falls : p .mw ≤ℤ pos 0
   pub natural : pos 0 ≤ℤ least p
   pub bounded : most p ≤ℤ pos (10 ^ 10)
-  pub week : total (p .factors) ≡ 70_000
+  pub week : sumOf (p .factors) ≡ 70_000
   pub heavy : (w : ℕ) → w < 7 → pos weightLeast ≤ℤ floorℤ (least p *ℤ pos (getD (p .factors) w 0)) 10_000_000
   pub light : (w : ℕ) → w < 7 → floorℤ (most p *ℤ pos (getD (p .factors) w 0)) 10_000_000 ≤ℤ pos weightMost
 

@@ -8,7 +8,7 @@ use lib.IntN.{ℤ, pos}
 use Rattle.power.specs.Power.{Encloses}
 use Rattle.profile.specs.Rows.{row}
 use Rattle.profile.specs.Limits.{inRange, coldest, warmest, weightLeast, weightMost, spanMost, profileCount}
-use Rattle.profile.specs.Table.{profileOf, total}
+use Rattle.profile.specs.Table.{profileOf, sumOf}
 use Rattle.profile.specs.Value.{ratioN, ratioM, lowPower, highPower, valueLow, valueHigh}
 use Rattle.profile.specs.Weight.{weightOf, floorWeight}
 use Rattle.profile.specs.declared.Numbered.{Numbered}
@@ -17,9 +17,9 @@ use Rattle.profile.specs.declared.ValueAnswer.the-variants as Valued
 use Rattle.profile.specs.declared.WeightAnswer.{WeightAnswer}
 use Rattle.profile.specs.declared.WeightAnswer.the-variants as Weighed
 
--- what a call gives where its number is 0, and the zero where it declines
+-- what a call gives where its number is 0, and what it gives where it declines
 abbrev pub accepted : {A : Type 0} → ℕ → A → A → A
-accepted number x zero = cond (eqb number 0) x zero
+accepted number x refused = cond (eqb number 0) x refused
 
 -- ---- profile by number
 abbrev pub byNumberRefusal : ℕ → ℕ
@@ -30,7 +30,7 @@ byNumberRefusal k =
 pub record ByNumberMet (k : ℕ) (r : Numbered) : Type 0 where
   pub number : r .refusal ≡ byNumberRefusal k
   pub profile : r .profile ≡ profileOf k
-  pub week : byNumberRefusal k ≡ 0 → total (r .profile .factors) ≡ 70_000
+  pub week : byNumberRefusal k ≡ 0 → sumOf (r .profile .factors) ≡ 70_000
 
 -- the limits, as the code names them
 pub record LimitsMet (cold warm : ℤ) (span count : ℕ) : Type 0 where
@@ -78,6 +78,7 @@ Enclosed k t =
 
 pub record ValueMet (k : ℕ) (t : ℤ) (r : ValueAnswer) : Type 0 where
   pub number : valueNumber r ≡ valueRefusal k t
+  -- "The index of 4 is 0 for one temperature": so for every answer, none of them having one
   pub index : valueIndex r ≡ 0
   pub low : lowGiven r ≡ accepted (valueRefusal k t) (valueLow (profileOf k) t) (pos 0)
   pub high : highGiven r ≡ accepted (valueRefusal k t) (valueHigh (profileOf k) t) (pos 0)
@@ -112,6 +113,7 @@ weightGiven Weighed.OutOfRange = 0
 
 pub record WeightMet (k weekday : ℕ) (t : ℤ) (r : WeightAnswer) : Type 0 where
   pub number : weightNumber r ≡ weightRefusal k weekday t
+  -- "The index of 4 is 0 for one temperature": so for every answer, none of them having one
   pub index : weightIndex r ≡ 0
   pub weight : weightGiven r ≡ accepted (weightRefusal k weekday t) (weightOf k weekday t) 0
   pub floored : weightRefusal k weekday t ≡ 0 → floorWeight k weekday t ≡ pos (weightGiven r)

@@ -41,10 +41,10 @@ gmf33 = record { a = 12_328_655; b = minus 347_213_605; c = 58_164_304; d = 873_
 abbrev pub table : List Profile
 table = hef33 ∷ hmf33 ∷ hko03 ∷ ghd33 ∷ gmk33 ∷ gko33 ∷ gbh33 ∷ gba33 ∷ gga33 ∷ gmf33 ∷ []
 
--- the sum of a profile's factors: 70,000 in every row of table 5
-unfoldable pub total : List ℕ → ℕ
-total [] = 0
-total (f ∷ rest) = f + total rest
+-- the sum of some numbers: for the factors of every row of table 5 it is 70,000
+unfoldable pub sumOf : List ℕ → ℕ
+sumOf [] = 0
+sumOf (x ∷ xs) = x + sumOf xs
 
 -- what is given where there is no profile of a number
 abbrev pub noProfile : Profile

@@ -1,15 +1,11 @@
 -- Profile value: "Written for temperature t in hundredths." Each definition below has its sentence of that section above it.
 use mathlib.Core.Bool.{Bool, cond}
-use Prim.Native.Nat.{ℕ, _+_, _-_, _*_, _/_, _^_}
+use Prim.Native.Nat.{ℕ, _+_, _*_, _/_, _^_}
 use lib.Dec.{leb}
 use lib.IntN.{ℤ, pos, natAbs, _+ℤ_, _-ℤ_, _*ℤ_}
 use lib.Signed.{leZ}
 use Rattle.profile.specs.declared.Profile.{Profile}
-use Rattle.power.specs.Power.{one, pLow, pHigh}
-
--- a quotient rounded upwards
-abbrev pub upward : ℕ → ℕ → ℕ
-upward x d = (x + (d - 1)) / d
+use Rattle.power.specs.Power.{one, upward, pLow, pHigh}
 
 -- "Let b be |B| and u = (4,000 - t) × 100,000": above 0, since t is at most 3,999
 abbrev pub bOf : Profile → ℕ

@@ -18,6 +18,6 @@ factorOf k weekday = getD (profileOf k .factors) weekday 0
 abbrev pub floorWeight : ℕ → ℕ → ℤ → ℤ
 floorWeight k weekday t = floorℤ (valueLow (profileOf k) t *ℤ pos (factorOf k weekday)) 10_000_000
 
--- the same as a natural number
+-- its size, which is the same where the call is accepted (`WeightMet .floored`)
 unfoldable pub weightOf : ℕ → ℕ → ℤ → ℕ
 weightOf k weekday t = natAbs (floorWeight k weekday t)

@@ -8,7 +8,8 @@ ghost use lib.IntN.{pos, natAbs};
 ghost use Rattle.profile.specs.Limits.{inRange, profileCount};
 ghost use Rattle.profile.specs.Weight.{weightOf};
 ghost use Rattle.profile.specs.Parts.{RatioMet, SharesMet, LineMet, LargerMet, ValuesMet};
-ghost use Rattle.profile.specs.Value.{linear, uOf, upward, sLow};
+ghost use Rattle.power.specs.Power.{upward};
+ghost use Rattle.profile.specs.Value.{linear, uOf, sLow};
 
 const ONE: u64 = 1 << 30;
 

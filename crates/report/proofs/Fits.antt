@@ -1,58 +1,17 @@
 -- No text is longer than the program's buffer (Case file, the program's output). Assumes nothing.
-use Prim.Native.Nat.{ℕ, zero, suc, _+_, _*_, _≤_}
+use Prim.Native.Nat.{ℕ, _≤_}
 use mathlib.Core.Path.{_≡_, refl, ap}
-use mathlib.Core.Bool.{Bool, true, false, cond, _||_}
-use mathlib.Core.List.{List, []}
+use mathlib.Core.List.{List}
 use native.Mathlib.Omega.{arith}
-use borrow.Author.Tests.{ltb-false}
-use lib.Dec.{ltb, eqb}
-use lib.ListN.{length, getD, length-append}
-use Rattle.profile.specs.Limits.{spanMost}
-use Rattle.account.specs.Account.{Account, days, shown}
-use Rattle.statement.specs.Parts.{Outputs, parts, written}
-use Rattle.statement.specs.Shares.{total}
-use Rattle.layout.specs.Text.{lineOf, partLines, partsText, statementText, refusalText, LaidOut}
+use lib.Dec.{eqb}
+use lib.ListN.{length}
+use Rattle.account.specs.Account.{Account}
+use Rattle.layout.specs.Text.{refusalText, LaidOut}
+use Rattle.layout.specs.Accounts.{accountText, textMost}
+use Rattle.layout.proofs.Fits.{either, account-most, refusal-most}
 use Rattle.casefile.specs.Reader.{faultNumber, faultPlace, verdict, slicesAfter}
 use Rattle.casefile.specs.Case.{named}
-use Rattle.layout.proofs.Decimal.{decimal-most}
-use Rattle.report.specs.Report.{accountNumber, accountText, caseText, textMost, CaseTextMet}
-
-pub refusal-most : (number place : ℕ) → length (refusalText number place) ≤ textMost
-refusal-most number place = simp length-append (omega (arith, decimal-most number, decimal-most place))
-
-line-most : (f t w : ℕ) → length (lineOf f t w) ≤ 66
-line-most f t w = simp length-append (omega (arith, decimal-most f, decimal-most t, decimal-most w))
-
-lines-most : (o : Outputs) (m : ℕ) → length (partLines o m) ≤ 66 * m
-unfolding partLines
-lines-most o zero = omega arith
-lines-most o (suc m) =
-    let line = lineOf (getD (o .from) m 0) (getD (o .to) m 0) (getD (o .wh) m 0) in
-    omega (arith, lines-most o m, line-most (getD (o .from) m 0) (getD (o .to) m 0) (getD (o .wh) m 0), length-append (partLines o m) line)
-
-parts-most : (o : Outputs) (m sum : ℕ) → m ≤ spanMost → length (partsText o m sum) ≤ textMost
-parts-most o m sum h = simp length-append (omega (arith, decimal-most m, decimal-most sum, lines-most o m))
-
-either : (b : Bool) (x y : List ℕ) → length x ≤ textMost → length y ≤ textMost → length (cond b x y) ≤ textMost
-either true x y h g = h
-either false x y h g = g
-
-statement-most : (o : Outputs) (m : ℕ) → length (statementText o m) ≤ textMost
-statement-most o m = by (ltb spanMost m) refl _ _ _ _
-  where
-    by : (a : Bool) → ltb spanMost m ≡ a → (b c d e : Bool) → length (cond (a || b || c || d || e) [] (partsText o m (total o m))) ≤ textMost
-    by true is b c d e = omega arith
-    by false is b c d e = either (b || c || d || e) [] (partsText o m (total o m)) (omega arith) (parts-most o m (total o m) (ltb-false spanMost m is))
-
--- the statement and the refusal of an account
-abbrev given : Account → List ℕ
-given a = statementText (written (days a) (parts (a .weights) (shown a))) (length (parts (a .weights) (shown a)))
-
-pub account-most : (a : Account) → length (accountText a) ≤ textMost
-account-most a =
-    either (eqb (accountNumber a) 0) (given a) (refusalText (accountNumber a) 0)
-    (statement-most (written (days a) (parts (a .weights) (shown a))) (length (parts (a .weights) (shown a))))
-    (refusal-most (accountNumber a) 0)
+use Rattle.report.specs.Report.{caseText, CaseTextMet}
 
 pub case-most : (s : List ℕ) (lent : Account) → length (caseText s lent) ≤ textMost
 case-most s lent =
@@ -63,6 +22,6 @@ case-most s lent =
 
 -- a text laid out that is the file's
 pub text-met : (s : List ℕ) (lent : Account) (text out : List ℕ) (next : ℕ) (after : Account) (written : List ℕ) →
-    LaidOut 0 text out next written → caseText s lent ≡ text → after ≡ slicesAfter s lent → CaseTextMet s lent out next after written
+    LaidOut 0 text out next written → caseText s lent ≡ text → after ≡ slicesAfter s lent → CaseTextMet s lent out next after written s
 text-met s lent text out next after written laid is fills =
-    record { says = rw is laid; fits = omega (arith, laid .ends, ap length is, case-most s lent); fills = fills }
+    record { says = rw is laid; fits = omega (arith, laid .ends, ap length is, case-most s lent); fills = fills; stays = refl }

@@ -6,7 +6,7 @@ use mathlib.Core.List.{List, _++_, map}
 use native.Mathlib.Omega.{arith}
 use native.Mathlib.Nat.{not-suc-le-zero}
 use native.Mathlib.Decide.{decLt}
-use borrow.Author.Tests.{le-ltb}
+use borrow.Author.Tests.{le-ltb, ne-eqb}
 use lib.Dec.{ltb}
 use lib.ListN.{length, getD, replicate, length-append, length-map}
 use Rattle.profile.specs.Limits.{spanMost}
@@ -22,7 +22,9 @@ use Rattle.statement.proofs.Order.{fair-of-sound}
 use Rattle.statement.proofs.Parts.{parts-fit}
 use Rattle.statement.proofs.Facts.{sums-up}
 use Rattle.layout.specs.Text.{noStatement, partsText}
-use Rattle.report.specs.Report.{accountNumber, accountText, PrintedInFull}
+use Rattle.layout.specs.Accounts.{accountNumber, accountText}
+use Rattle.report.specs.Report.{PrintedInFull}
+use Rattle.report.proofs.Given.{has-part}
 
 -- a part is no more than the total
 total-grows : (o : Outputs) (m i : ℕ) → i < m → getD (o .wh) i 0 ≤ total o m
@@ -53,6 +55,7 @@ in-full a number =
     none-is _ (length ps) (λ i h. le-ltb energyMost (getD (o .wh) i 0) (omega (arith, total-grows o (length ps) i h, sum, sound-parts a (ok .sound) .energy))) in
     let is : noStatement o (length ps) ≡ false =
     simp (
+      ne-eqb (length ps) 0 (λ none. omega (arith, has-part (a .weights) (shown a) two)),
       le-ltb spanMost (length ps) (omega (arith, few, fit a (ok .fits) .most)),
       long-enough (λ (p : Part). p .from) (days a) ps,
       long-enough (λ (p : Part). p .to) (days a) ps,

@@ -1,4 +1,4 @@
-mod Texts
 mod Taken
 pub mod Fits
+pub mod Given
 pub mod Full

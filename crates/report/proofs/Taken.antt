@@ -15,12 +15,13 @@ use Rattle.account.proofs.Boundaries.{clash, refuted}
 use Rattle.layout.specs.Text.{refusalText}
 use Rattle.casefile.specs.Case.{profileOf, weekdayOf, meanCount, meanPlace, daysOf, readingsPlace, readingCount, readingPlace, readingBoundary, readingValue, cutsPlace, cutCount, cutPlace, cutBoundary, endOf, named}
 use Rattle.casefile.specs.Bytes.{signed16}
-use Rattle.casefile.specs.Faults.{Fault, none, refused, fault, _before_, firstFault, early, falls, meanFault, readingFault, cutFault, faultOf}
+use Rattle.casefile.specs.Faults.{Fault, none, refused, fault, _before_, firstFault, early, falls, meanFault, readingFault, cutFault, faultOf, headFault, meansFault, readingsFault}
 use Rattle.casefile.specs.Reader.{faultNumber, faultPlace, unfitSlices, verdict, filled, full, ReadMet}
 use Rattle.casefile.specs.declared.CaseAnswer.the-variants.{Days, Refused}
 use Rattle.casefile.proofs.Filed.{Kept, cuts-kept}
 use Rattle.casefile.proofs.Sound.{days-kept, case-sound}
-use Rattle.report.specs.Report.{accountText, caseText}
+use Rattle.layout.specs.Accounts.{accountText}
+use Rattle.report.specs.Report.{caseText}
 
 -- a fault that the paper has a number for
 record Numbered (f : Fault) : Type 0 where
@@ -66,18 +67,18 @@ module _ (s : List ℕ) where
 
   file-numbered : Numbered (faultOf s)
   file-numbered =
+      numbered-before (headFault s 0) _ (
       ends 1 _ (
       then (ltb 9 (profileOf s)) 0 0 _ (
       ends 2 _ (
       then (ltb 6 (weekdayOf s)) 1 1 _ (
-      ends 4 _ (
-      then (badSpan (daysOf s)) 2 2 _ (
-      numbered-before (firstFault (meanFault s) (meanCount s)) _ (numbered-first (meanFault s) mean-numbered (meanCount s)) (
-      ends (readingsPlace s + 2) _ (
-      numbered-before (firstFault (readingFault s) (readingCount s)) _ (numbered-first (readingFault s) reading-numbered (readingCount s)) (
+      ends 4 _
+      (numbered-fault (badSpan (daysOf s)) 2 2)))))) (
+      numbered-before (meansFault s) _ (numbered-first (meanFault s) mean-numbered (meanCount s)) (
+      numbered-before (readingsFault s) _ (ends (readingsPlace s + 2) _ (numbered-first (readingFault s) reading-numbered (readingCount s))) (
       ends (cutsPlace s + 2) _ (
       numbered-before (firstFault (cutFault s) (cutCount s)) _ (numbered-first (cutFault s) cut-numbered (cutCount s))
-      (numbered-fault (ltb (endOf s) (length s)) 12 (endOf s))))))))))))
+      (numbered-fault (ltb (endOf s) (length s)) 12 (endOf s))))))
 
 -- a list and the zeros after it: its start is the list, and it is at least as long
 filled-starts : (m : ℕ) (xs : List ℕ) (n : ℕ) → length xs ≡ n → take n (filled m xs) ≡ xs
@@ -103,14 +104,14 @@ module _ (s : List ℕ) (lent : Account) (accepted : faultNumber (verdict s lent
       let bad : unfit (named s) ≡ true = rw none-is refl in
       clash bad (case-sound s (file-numbered s .none-if clean) .0)
 
-module _ (s : List ℕ) (lent : Account) (number place : ℕ) (after : Account) (met : ReadMet s lent (Refused number place) after) where
+module _ (s : List ℕ) (lent : Account) (number place : ℕ) (after : Account) (met : ReadMet s lent (Refused number place) after s) where
   pub refused-says : caseText s lent ≡ refusalText number place
   refused-says =
       let declined : faultNumber (verdict s lent) ≡ 0 → ⊥ = λ e. some-days s lent e (sym (met .returns ∙ rw e refl)) in
       let says : caseText s lent ≡ refusalText (faultNumber (verdict s lent)) (faultPlace (verdict s lent)) = simp (ne-eqb (faultNumber (verdict s lent)) 0 declined) in
       says ∙ sym (ap₂ refusalText (met .numbers) (met .places))
 
-module _ (s : List ℕ) (lent : Account) (n : ℕ) (after : Account) (met : ReadMet s lent (Days n) after) where
+module _ (s : List ℕ) (lent : Account) (n : ℕ) (after : Account) (met : ReadMet s lent (Days n) after s) where
   accepted : faultNumber (verdict s lent) ≡ 0
   accepted = sym (met .numbers)
 

@@ -3,7 +3,7 @@ use mathlib.Core.Path.{_≡_, sym}
 use Prim.Native.Nat.{ℕ, zero, suc, _+_, _*_, _/_, _≤_, _<_}
 use native.Mathlib.Nat.{div-mul-le-self, lt-div-mul-add, div-eq-of-lt-le, div-zero, le-div-iff-mul-le}
 use native.Mathlib.Omega.{arith}
-use Rattle.rounding.specs.Nearest.{nearest, IsNearest}
+use Rattle.rounding.specs.Nearest.{nearest, IsNearest, OneNearest}
 
 double : (q d : ℕ) → q * (2 * d) ≡ 2 * (q * d)
 double q d = omega arith
@@ -23,6 +23,9 @@ nearest-only x d q h is =
     let low : q * (2 * d) ≤ 2 * x + d = omega (arith, double q d) in
     let high : 2 * x + d < (q + 1) * (2 * d) = omega (arith, double q d) in
     sym (div-eq-of-lt-le (2 * d) low high)
+
+pub one-nearest : OneNearest
+one-nearest x d h = (nearest-is x d h, λ q is. nearest-only x d q h is)
 
 pub nearest-zero : (x : ℕ) → nearest x 0 ≡ 0
 unfolding nearest

@@ -8,7 +8,7 @@ use native.Mathlib.Nat.{le-refl}
 use native.Mathlib.Numerals.{add-one}
 use borrow.Author.Tests.{lt-leb, le-leb, leb-true, eq-eqb, ne-eqb}
 use lib.Dec.{leb, eqb}
-use lib.IntN.{ℤ, pos, negsuc, negℤ, _-ℤ_}
+use lib.IntN.{ℤ, pos, negsuc, negℤ}
 use lib.ListN.{length, getD, take, drop, drop-of-length-le}
 use lib.Seq.{drop-cons, take-all}
 use Rattle.script.specs.Words.{every}
@@ -93,11 +93,6 @@ mean-none w e = by (isMean w) e
     by : (b : Bool) → cond b (Mean (degrees w)) NoMean ≡ NoMean → b ≡ false
     by true h = cc
     by false h = refl
-
--- one less than the negative of n
-pub less-one : (n : ℕ) → negsuc 0 -ℤ pos n ≡ negsuc n
-less-one zero = refl
-less-one (suc n) = ap negsuc (omega arith)
 
 pub below-zero : (n : ℕ) → (n ≡ 0 → ⊥) → negsuc (n - 1) ≡ negℤ (pos n)
 below-zero zero h = absurd (h refl)

@@ -8,7 +8,7 @@ use borrow.Author.Tests.{eq-eqb, ne-eqb}
 use lib.ListN.{length, getD, take, drop}
 use Rattle.script.specs.Words.{next, wordsLeft, every}
 use Rattle.script.specs.Numbers.{numberOf, isMean, most8, most64}
-use Rattle.script.specs.Calls.{commandOf, called, named, with, when, onlyNumber, weekdayAndMeans, daysCall, readingCall}
+use Rattle.script.specs.Calls.{commandOf, ofWords, named, with, when, onlyNumber, weekdayAndMeans, daysCall, readingCall}
 use Rattle.script.specs.declared.Decimal.{Decimal}
 use Rattle.script.specs.declared.Call.the-variants.{Reading}
 use Rattle.script.specs.declared.Command.the-variants.{Blank, Days, Change}
@@ -44,4 +44,4 @@ comment (x ∷ s) full e = simp (eq-eqb _ _ e)
 pub call : (s : List ℕ) → (length s ≡ 0 → ⊥) → (getD s 0 0 ≡ 35 → ⊥) → (end : ℕ) → end ≡ next 32 s 0 →
     commandOf s ≡ named (take end s) (wordsLeft (drop end s))
 call [] full e end is = absurd (full refl)
-call (x ∷ s) full e end is = rw (ne-eqb _ _ e, is) (ap called (words-first (x ∷ s)))
+call (x ∷ s) full e end is = rw (ne-eqb _ _ e, is) (ap ofWords (words-first (x ∷ s)))

@@ -1,4 +1,5 @@
 pub mod Split
+pub mod Input
 mod Digits
 mod Judged
 mod Listing

@@ -1,11 +1,12 @@
 -- The calls of a script: `weights W W ..`, `days PROFILE WEEKDAY MEAN MEAN ..`, `reading K COUNT`, `withdraw K`, `cut K`, `uncut K`, `statement`.
--- "Empty lines and lines that begin with `#`" are no call; "a line that is no call, or a number that the call's type can't hold" is unknown.
+-- Empty lines and lines that begin with `#` are no call; a line that is no call, or has a number that the call's type can't hold, is unknown.
 use Prim.Native.Nat.{ℕ}
 use mathlib.Core.Bool.{Bool, true, cond}
 use mathlib.Core.List.{List, [], _∷_}
 use lib.Dec.{eqb}
 use lib.IntN.{ℤ}
 use lib.ListN.{drop}
+use Rattle.profile.specs.Rows.{row}
 use Rattle.script.specs.Words.{words, wordsLeft, same, every}
 use Rattle.script.specs.Numbers.{value, isNumber, numberOf, isMean, degrees, leading, most8, most32, most64}
 use Rattle.script.specs.declared.Decimal.{Decimal}
@@ -77,9 +78,9 @@ statementCall (x ∷ ws) = Unknown
 -- `withdraw`, `cut` and `uncut`: a boundary of 64 bits, and no more
 abbrev pub boundaryCall : List ℕ → ℕ → Command
 boundaryCall name k =
-    cond (same name withdrawName) (Change (Withdraw k))
-    (cond (same name cutName) (Change (Cut k))
-    (cond (same name uncutName) (Change (Uncut k))
+    row (same name withdrawName) (Change (Withdraw k))
+    (row (same name cutName) (Change (Cut k))
+    (row (same name uncutName) (Change (Uncut k))
     Unknown))
 
 abbrev pub onBoundary : List ℕ → List (List ℕ) → Command
@@ -88,20 +89,20 @@ onBoundary name ws = with (onlyNumber ws) (boundaryCall name)
 -- a call by its name and the words after it
 abbrev pub named : List ℕ → List (List ℕ) → Command
 named name ws =
-    cond (same name weightsName) (weightsCall ws)
-    (cond (same name daysName) (daysCall ws)
-    (cond (same name readingName) (readingCall ws)
-    (cond (same name statementName) (statementCall ws)
+    row (same name weightsName) (weightsCall ws)
+    (row (same name daysName) (daysCall ws)
+    (row (same name readingName) (readingCall ws)
+    (row (same name statementName) (statementCall ws)
     (onBoundary name ws))))
 
-abbrev pub called : List (List ℕ) → Command
-called [] = Unknown
-called (name ∷ ws) = named name ws
+abbrev pub ofWords : List (List ℕ) → Command
+ofWords [] = Unknown
+ofWords (name ∷ ws) = named name ws
 
 -- what a line says
 abbrev pub commandOf : List ℕ → Command
 commandOf [] = Blank
-commandOf (x ∷ s) = cond (eqb x 35) Blank (called (words (x ∷ s)))
+commandOf (x ∷ s) = cond (eqb x 35) Blank (ofWords (words (x ∷ s)))
 
 -- the weights of a `weights` line, and the means of a `days` line
 abbrev pub weightsIn : List ℕ → List ℕ

@@ -1,5 +1,6 @@
--- The lines and words of a script: "one call a line, words separated by single spaces". Text is a list of ASCII codes.
+-- The lines and words of a script: one call a line, words separated by single spaces. Text is a list of ASCII codes.
 use Prim.Native.Nat.{ℕ, _+_}
+use mathlib.Core.Path.{_≡_}
 use mathlib.Core.Bool.{Bool, true, false, cond, _&&_}
 use mathlib.Core.List.{List, [], _∷_}
 use lib.Dec.{eqb}
@@ -10,11 +11,11 @@ unfoldable pub upTo : ℕ → List ℕ → List ℕ
 upTo b [] = []
 upTo b (x ∷ s) = cond (eqb x b) [] (x ∷ upTo b s)
 
--- the offset of the next byte b from an offset on, or the end of the text
+-- the offset of the next byte b from an offset on; where there is none the end of the text, or the offset itself where it lies past the end
 abbrev pub next : ℕ → List ℕ → ℕ → ℕ
 next b text at = at + length (upTo b (drop at text))
 
--- the end of a line that begins at an offset: the next line feed, or the end of the text
+-- the end of a line that begins at an offset: the next line feed; where there is none as above
 abbrev pub lineEnd : List ℕ → ℕ → ℕ
 lineEnd text at = next 10 text at
 
@@ -45,3 +46,8 @@ module _ {A : Type 0} where
   unfoldable pub every : (A → Bool) → List A → Bool
   every test [] = true
   every test (x ∷ s) = test x && every test s
+
+  -- an answer that is read off a lent text, and the text unchanged
+  pub record ReadOff (is answer : A) (text kept : List ℕ) : Type 0 where
+    pub answers : answer ≡ is
+    pub stays : kept ≡ text

@@ -3,14 +3,19 @@ mod calls;
 mod lists;
 mod words;
 
+use words::after_feed;
 use words::after_word;
 use words::next;
 ghost use mathlib.Core.Path.{_≡_};
-ghost use Rattle.script.specs.Words.{lineEnd};
+ghost use Rattle.script.specs.Words.{lineEnd, ReadOff};
 ghost use Prim.Native.Nat.{_≤_};
 ghost use lib.IntN.{pos, negℤ};
 ghost use Rattle.script.specs.Numbers.{numberOf, meanOf, Listed};
 ghost use Rattle.script.specs.Calls.{commandOf, weightsIn, meansIn};
+ghost use Rattle.script.specs.Input.{wholeLines};
+
+// The longest script.
+pub const SCRIPT_MOST: usize = 65_536;
 
 // A decimal number that a type can hold, or none.
 pub enum Decimal {
@@ -42,9 +47,19 @@ pub enum Command {
     Statement,
 }
 
-// The end of the line that begins at an offset: the next line feed, or the end of the text.
+// How much of an input is run as a script: all of it, or of one that is too long the lines that end within the longest script.
+pub fn whole_lines(input: &[u8]) -> usize
+    ensures { λ r. ⌜ ReadOff (wholeLines (now (input .entry))) r (now (input .entry)) (now (input .exit)) ⌝ }
+{
+    if input.len() <= SCRIPT_MOST {
+        return input.len();
+    }
+    after_feed(input, SCRIPT_MOST)
+}
+
+// The end of the line that begins at an offset: the next line feed, or the end of the text; the offset itself where it lies past the end.
 pub fn line_end(text: &[u8], at: usize) -> usize
-    ensures { λ r. ⌜ r ≡ lineEnd (now (text .entry)) at ⌝ }
+    ensures { λ r. ⌜ ReadOff (lineEnd (now (text .entry)) at) r (now (text .entry)) (now (text .exit)) ⌝ }
 {
     next(text, at, b'\n')
 }
@@ -111,7 +126,7 @@ fn negative(n: u64) -> i16
 
 // What a line says.
 pub fn parse(line: &[u8]) -> Command
-    ensures { λ r. ⌜ r ≡ commandOf (now (line .entry)) ⌝ }
+    ensures { λ r. ⌜ ReadOff (commandOf (now (line .entry))) r (now (line .entry)) (now (line .exit)) ⌝ }
 {
     if line.len() == 0 {
         return Command::Blank;
@@ -125,14 +140,14 @@ pub fn parse(line: &[u8]) -> Command
 
 // The weights of a `weights` line, as many of them as fit, and how many there are.
 pub fn weights(line: &[u8], out: &mut [u32]) -> usize
-    ensures { λ r. ⌜ Listed (weightsIn (now (line .entry))) (now (out .entry)) r (now (out .exit)) ⌝ }
+    ensures { λ r. ⌜ Listed (weightsIn (now (line .entry))) (now (out .entry)) r (now (out .exit)) (now (line .entry)) (now (line .exit)) ⌝ }
 {
     lists::weights_from(line, next(line, 0, b' '), out)
 }
 
 // The means of a `days` line, as many of them as fit, and how many there are.
 pub fn means(line: &[u8], out: &mut [i16]) -> usize
-    ensures { λ r. ⌜ Listed (meansIn (now (line .entry))) (now (out .entry)) r (now (out .exit)) ⌝ }
+    ensures { λ r. ⌜ Listed (meansIn (now (line .entry))) (now (out .entry)) r (now (out .exit)) (now (line .entry)) (now (line .exit)) ⌝ }
 {
     let end = after_word(line, after_word(line, next(line, 0, b' ')));
     lists::means_from(line, end, out)

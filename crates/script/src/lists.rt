@@ -44,7 +44,7 @@ pub(crate) fn all_means(line: &[u8], end: usize) -> bool
 
 // The weights from the end of a word on, stored as far as they fit; how many there are.
 pub(crate) fn weights_from(line: &[u8], end: usize, out: &mut [u32]) -> usize
-    ensures { λ r. ⌜ Listed (leading (isNumber most32) value (wordsLeft (drop end (now (line .entry))))) (now (out .entry)) r (now (out .exit)) ⌝ }
+    ensures { λ r. ⌜ Listed (leading (isNumber most32) value (wordsLeft (drop end (now (line .entry))))) (now (out .entry)) r (now (out .exit)) (now (line .entry)) (now (line .exit)) ⌝ }
 {
     let mut at = end;
     let mut i = 0;
@@ -64,7 +64,7 @@ pub(crate) fn weights_from(line: &[u8], end: usize, out: &mut [u32]) -> usize
 
 // The means from the end of a word on, stored as far as they fit; how many there are.
 pub(crate) fn means_from(line: &[u8], end: usize, out: &mut [i16]) -> usize
-    ensures { λ r. ⌜ Listed (leading isMean degrees (wordsLeft (drop end (now (line .entry))))) (now (out .entry)) r (now (out .exit)) ⌝ }
+    ensures { λ r. ⌜ Listed (leading isMean degrees (wordsLeft (drop end (now (line .entry))))) (now (out .entry)) r (now (out .exit)) (now (line .entry)) (now (line .exit)) ⌝ }
 {
     let mut at = end;
     let mut i = 0;

@@ -1,9 +1,11 @@
-// Words between spaces, and whether two are the same.
+// Lines, words between spaces, and whether two are the same.
 ghost use mathlib.Core.Path.{_≡_};
 ghost use Rattle.script.specs.Words.{next, wordsLeft, same};
-ghost use lib.ListN.{drop};
+ghost use Rattle.script.specs.Input.{afterFeed};
+ghost use Prim.Native.Nat.{_≤_};
+ghost use lib.ListN.{length, drop};
 
-// The offset of the next byte b from an offset on, or the end of the text.
+// The offset of the next byte b from an offset on, or the end of the text; the offset itself where it lies past the end.
 pub(crate) fn next(text: &[u8], at: usize, b: u8) -> usize
     ensures { λ r. ⌜ r ≡ next b (now (text .entry)) at ⌝ }
 {
@@ -42,4 +44,19 @@ pub(crate) fn after_word(line: &[u8], at: usize) -> usize
         return next(line, at + 1, b' ');
     }
     at
+}
+
+// The offset after the last line feed of the first bytes, 0 where they have none.
+pub(crate) fn after_feed(text: &[u8], bytes: usize) -> usize
+    requires { ⌜ bytes ≤ length (now text) ⌝ }
+    ensures { λ r. ⌜ r ≡ afterFeed (now (text .entry)) bytes ⌝ }
+{
+    let mut end = bytes;
+    while 0 < end {
+        if text[end - 1] == b'\n' {
+            return end;
+        }
+        end -= 1;
+    }
+    0
 }

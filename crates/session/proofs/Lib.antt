@@ -3,3 +3,4 @@ mod Opening
 mod Stepping
 mod Short
 mod Running
+pub mod Joined

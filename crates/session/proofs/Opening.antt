@@ -18,6 +18,9 @@ use Rattle.account.specs.Calls.{OpenMet, cleared, left, number}
 use Rattle.weights.specs.Choose.{spans}
 use Rattle.weights.specs.Means.{firstOut, someOut}
 use Rattle.weights.specs.Weights.{Outcome, outcome, unfit, zeros, weightsOf}
+use Rattle.weights.specs.Weights as weights
+use Rattle.weights.specs.declared.WeightsAnswer.{WeightsAnswer}
+use Rattle.weights.specs.declared.WeightsAnswer.the-variants.{Done, Unfit, NoProfile, NoWeekday, OutOfRange}
 use Rattle.account.specs.declared.Answer.{Answer}
 use Rattle.session.specs.Buffers.{laid}
 use Rattle.session.specs.Calls.{offered, candidate, opensNumber, openedNumber, openedDays, openedBuffers, OpenedMet}
@@ -31,7 +34,7 @@ refused-met o b r answers refused places none =
     record {
       answers = answers;
       places = places;
-      counts = none ∙ sym (simp (ne-eqb (openedNumber o b) 0 refused));
+      returns = none ∙ sym (simp (ne-eqb (openedNumber o b) 0 refused));
       leaves = sym (simp (ne-eqb (openedNumber o b) 0 refused));
     }
 
@@ -70,7 +73,7 @@ module _ (ws : List ℕ) (b : Account) (n m c : ℕ) (marks counts : List ℕ) (
       record {
         answers = zero ∙ sym is;
         places = place;
-        counts = days ∙ sym nIs ∙ sym (simp is);
+        returns = days ∙ sym nIs ∙ sym (simp is);
         leaves =
             ap (λ (w : List ℕ). account w (marks ++ drop m (b .marks)) (counts ++ drop c (b .counts))) (over ∙ ap (λ (k : ℕ). ws ++ drop k (b .weights)) (sym nIs)) ∙
             rw (← long-marks, ← long-counts) (ap (λ (a : Account). laid a b) clear) ∙
@@ -92,7 +95,8 @@ too-many ws b h = simp (lt-leb (length ws) spanMost h, and-false) (either (ltb (
     either false = refl
 
 -- the list that a line's words gave, where the buffer has room for it
-pub listed-take : {A : Type 0} {values before : List A} {n : ℕ} {after : List A} → Listed values before n after → n ≤ length before → take n after ≡ values
+pub listed-take : {A : Type 0} {values before : List A} {n : ℕ} {after : List A} {line kept : List ℕ} →
+    Listed values before n after line kept → n ≤ length before → take n after ≡ values
 listed-take {values = values} {before = before} {n = n} listed room =
     let fits : 0 + length values ≤ length before = omega (arith, listed .counts) in
     ap (take n) (listed .stored ∙ sets-eq values before 0 fits) ∙ take-at values (drop (0 + length values) before) n (sym (listed .counts))
@@ -119,8 +123,16 @@ same-offer profile weekday means x y e b r then met =
         (record { number = 0; place = 0; memory = weightsOf profile weekday means }))))
 
     by : (u p w s : Bool) → OpenedMet (rows u p w s x) b r then → OpenedMet (rows u p w s y) b r then
-    by true p w s m = record { answers = m .answers; places = m .places; counts = m .counts; leaves = m .leaves }
+    by true p w s m = record { answers = m .answers; places = m .places; returns = m .returns; leaves = m .leaves }
     by false p w s m = m
+
+-- weights that are given have no place
+pub no-place : (answer : WeightsAnswer) → weights.number answer ≡ 0 → weights.place answer ≡ 0
+no-place Done e = refl
+no-place Unfit e = refl
+no-place NoProfile e = refl
+no-place NoWeekday e = refl
+no-place (OutOfRange k) e = absurd (omega (arith, e))
 
 -- an accepted offer is its weights
 pub offer-is : (o : Outcome) (ws : List ℕ) → o .number ≡ 0 → o .place ≡ 0 → ws ≡ o .memory → offered ws ≡ o

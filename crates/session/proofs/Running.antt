@@ -1,24 +1,26 @@
 -- A script's lines from an offset on, and answers gathered one after the other. Assumes nothing.
 use Prim.Native.Nat.{ℕ, suc, _+_, _-_, _≤_, _<_}
 use mathlib.Core.Path.{_≡_, refl, sym, ap, ap₂, subst, _∙_}
-use mathlib.Core.Bool.{Bool, true, false, cond}
+use mathlib.Core.Bool.{Bool, true, false, cond, _&&_}
 use mathlib.Core.List.{List, [], _∷_, _++_, append-assoc, append-nil}
 use native.Mathlib.Omega.{arith}
 use native.Mathlib.Nat.{add-zero, zero-add}
-use native.Mathlib.Decide.{decLe}
 use borrow.Author.Needs.{zero≤}
-use lib.Dec.{eqb}
+use borrow.Author.Tests.{ltb-true, ltb-false, leb-true}
+use lib.Dec.{eqb, ltb, leb}
 use lib.ListN.{length, take, drop, length-append, length-drop, drop-of-length-le}
-use lib.Seq.{drop-drop, take-at, take-all, sets, sets-eq, length-sets}
+use lib.Seq.{drop-drop, length-take-le, take-all, sets, sets-eq, length-sets}
 use borrow.Rule.Slice.PartMut.{midOf, postOf, putMid}
 use Rattle.account.specs.Account.{Account}
+use Rattle.account.proofs.Boundaries.{both}
 use Rattle.layout.specs.Text.{LaidOut}
 use Rattle.layout.proofs.Laid.{then-laid}
 use Rattle.script.proofs.Split.{upTo-short}
 use Rattle.script.specs.Words.{upTo, lineEnd}
+use Rattle.script.specs.Numbers.{most64}
 use Rattle.script.specs.Calls.{commandOf}
 use Rattle.session.specs.Lines.{Session, session, says, next, StepMet}
-use Rattle.session.specs.Transcript.{begun, lines, transcript, sessionAfter, longest, passed, GatheredMet, RunMet}
+use Rattle.session.specs.Transcript.{begun, lines, transcript, sessionAfter, longest, oneMore, runnable, passed, offsetAfter, GatheredMet, RunMet}
 use Rattle.session.specs.declared.Said.{Said}
 use Rattle.session.specs.declared.Ran.{Ran}
 use Rattle.session.proofs.Short.{says-short}
@@ -63,25 +65,88 @@ module _ (s : List ℕ) (at end : ℕ) (h : at < length s) (e : end ≡ lineEnd 
       lines-first (drop at s) (omega (arith, length-drop at s)) ∙
       rw (drop-drop (suc (length (upTo 10 (drop at s)))) at s, far, width, take-upTo 10 (drop at s))
 
--- what lines and one more print, and the session after them
-pub transcript-more : (ls : List (List ℕ)) (line : List ℕ) (before : ℕ) (s : Session) →
-    transcript (ls ++ (line ∷ [])) before s ≡
-    transcript ls before s ++ says (commandOf line) line (before + length ls + 1) (sessionAfter ls s)
-unfolding transcript sessionAfter
-transcript-more [] line before s = rw add-zero (append-nil (says (commandOf line) line (before + 1) s))
-transcript-more (x ∷ ls) line before s =
-    let told : List ℕ = says (commandOf x) x (before + 1) s in
-    let then : Session = next (commandOf x) x s in
-    let far : before + 1 + length ls ≡ before + suc (length ls) = omega arith in
-    ap (λ (t : List ℕ). told ++ t) (transcript-more ls line (before + 1) then) ∙
-    sym (append-assoc told (transcript ls (before + 1) then) (says (commandOf line) line (before + 1 + length ls + 1) (sessionAfter ls then))) ∙
-    ap (λ (l : ℕ). told ++ transcript ls (before + 1) then ++ says (commandOf line) line (l + 1) (sessionAfter ls then)) far
+-- what lines and others after them print, the session and the offset after them
+module _ (ms : List (List ℕ)) where
+  pub transcript-join : (ls : List (List ℕ)) (before : ℕ) (s : Session) →
+      transcript (ls ++ ms) before s ≡ transcript ls before s ++ transcript ms (before + length ls) (sessionAfter ls s)
+  unfolding transcript sessionAfter
+  transcript-join [] before s = rw add-zero refl
+  transcript-join (x ∷ ls) before s =
+      let told : List ℕ = says (commandOf x) x (before + 1) s in
+      let then : Session = next (commandOf x) x s in
+      let far : before + 1 + length ls ≡ before + suc (length ls) = omega arith in
+      ap (λ (t : List ℕ). told ++ t) (transcript-join ls (before + 1) then) ∙
+      sym (append-assoc told (transcript ls (before + 1) then) (transcript ms (before + 1 + length ls) (sessionAfter ls then))) ∙
+      ap (λ (l : ℕ). told ++ transcript ls (before + 1) then ++ transcript ms l (sessionAfter ls then)) far
 
-pub session-more : (ls : List (List ℕ)) (line : List ℕ) (s : Session) →
-    sessionAfter (ls ++ (line ∷ [])) s ≡ next (commandOf line) line (sessionAfter ls s)
-unfolding sessionAfter
-session-more [] line s = refl
-session-more (x ∷ ls) line s = session-more ls line (next (commandOf x) x s)
+  session-join : (ls : List (List ℕ)) (s : Session) → sessionAfter (ls ++ ms) s ≡ sessionAfter ms (sessionAfter ls s)
+  unfolding sessionAfter
+  session-join [] s = refl
+  session-join (x ∷ ls) s = session-join ls (next (commandOf x) x s)
+
+  offset-join : (ls : List (List ℕ)) (at : ℕ) → offsetAfter at (ls ++ ms) ≡ offsetAfter (offsetAfter at ls) ms
+  unfolding offsetAfter
+  offset-join [] at = refl
+  offset-join (x ∷ ls) at = offset-join ls (at + length x + 1)
+
+-- the same of one line after them
+module _ (line : List ℕ) where
+  transcript-more : (ls : List (List ℕ)) (before : ℕ) (s : Session) →
+      transcript (ls ++ (line ∷ [])) before s ≡ transcript ls before s ++ says (commandOf line) line (before + length ls + 1) (sessionAfter ls s)
+  unfolding transcript
+  transcript-more ls before s =
+      transcript-join (line ∷ []) ls before s ∙
+      ap (λ (t : List ℕ). transcript ls before s ++ t) (append-nil (says (commandOf line) line (before + length ls + 1) (sessionAfter ls s)))
+
+  session-more : (ls : List (List ℕ)) (s : Session) → sessionAfter (ls ++ (line ∷ [])) s ≡ next (commandOf line) line (sessionAfter ls s)
+  unfolding sessionAfter
+  session-more ls s = session-join (line ∷ []) ls s
+
+  offset-more : (ls : List (List ℕ)) (at : ℕ) → offsetAfter at (ls ++ (line ∷ [])) ≡ offsetAfter at ls + length line + 1
+  unfolding offsetAfter
+  offset-more ls at = offset-join (line ∷ []) ls at
+
+pub offset-least : (ls : List (List ℕ)) (at : ℕ) → at + length ls ≤ offsetAfter at ls
+unfolding offsetAfter
+offset-least [] at = omega arith
+offset-least (x ∷ ls) at = omega (arith, offset-least ls (at + length x + 1))
+
+-- the lines run: one more, or none
+module _ (done : ℕ) (s : Session) (room : ℕ) where
+  pub runnable-more : (line : List ℕ) (rest : List (List ℕ)) → oneMore done room ≡ true →
+      runnable (line ∷ rest) done s room ≡
+      line ∷ runnable rest (done + 1) (next (commandOf line) line s) (room - length (says (commandOf line) line (done + 1) s))
+  unfolding runnable
+  runnable-more line rest goes = simp goes
+
+  runnable-none : (ls : List (List ℕ)) → oneMore done room ≡ false → runnable ls done s room ≡ []
+  unfolding runnable
+  runnable-none [] stops = refl
+  runnable-none (line ∷ rest) stops = simp stops
+
+  -- no line is left, or none is run
+  pub stopped : (text : List ℕ) (at : ℕ) → (ltb at (length text) && oneMore done room) ≡ false → runnable (lines (drop at text)) done s room ≡ []
+  unfolding runnable lines
+  stopped text at stops = by (ltb at (length text)) refl stops
+    where
+      by : (more : Bool) → ltb at (length text) ≡ more → (more && oneMore done room) ≡ false → runnable (lines (drop at text)) done s room ≡ []
+      by true is stop = runnable-none (lines (drop at text)) stop
+      by false is stop = rw (drop-of-length-le text (ltb-false at (length text) is)) refl
+
+-- what the test of a run says, its room counted by another name
+module _ (r : Bool) (at end done have want n : ℕ) (is : r ≡ (ltb at end && oneMore done (have - n))) (same : have ≡ want) where
+  pub goes : r ≡ true → (at < end) × (done < most64) × (longest ≤ want - n) × (oneMore done (want - n) ≡ true)
+  goes taken =
+      let b = both (ltb at end) (oneMore done (have - n)) (sym is ∙ taken) in
+      let one : oneMore done (want - n) ≡ true = ap (λ (k : ℕ). oneMore done (k - n)) (sym same) ∙ b .1 in
+      let c = both (ltb done most64) (leb longest (want - n)) one in
+      (ltb-true at end (b .0), ltb-true done most64 (c .0), leb-true longest (want - n) (c .1), one)
+
+  pub stops : r ≡ false → (ltb at end && oneMore done (want - n)) ≡ false
+  stops left = ap (λ (k : ℕ). ltb at end && oneMore done (k - n)) (sym same) ∙ sym is ∙ left
+
+pub room-left : (done room : ℕ) → oneMore done room ≡ true → longest ≤ room
+room-left done room goes = leb-true longest room (both (ltb done most64) (leb longest room) goes .1)
 
 -- a text put at the start of the part of a slice from an offset on is put from that offset on
 pub gathered : (out text : List ℕ) (filled : ℕ) → filled + length text ≤ length out →
@@ -117,80 +182,73 @@ gathered-met line l s out filled said then part room met =
       leaves = met .leaves;
     }
 
--- a script run so far: these lines are passed, their answers laid out in n bytes, and the others left
+-- a script run so far: these lines are passed, their answers laid out in n bytes, and those left are run from here
 pub record Going (text : List ℕ) (at done : ℕ) (before : Session) (out : List ℕ) (next-at next-done : ℕ) (s : Session) (written : List ℕ) (n : ℕ) : Type 0 where
-  pub lines-passed : List (List ℕ)
-  pub answers : LaidOut 0 (transcript lines-passed done before) out n written
-  pub within : n ≤ length written
-  pub leaves : s ≡ sessionAfter lines-passed before
-  pub counts : next-done ≡ done + length lines-passed
-  pub left : lines (drop at text) ≡ lines-passed ++ lines (drop next-at text)
-  pub passes : next-done + at ≤ done + next-at
+  pub so-far : List (List ℕ)
+  pub answers : LaidOut 0 (transcript so-far done before) out n written
+  pub within : n ≤ length out
+  pub leaves : s ≡ sessionAfter so-far before
+  pub counts : next-done ≡ done + length so-far
+  pub stands : next-at ≡ offsetAfter at so-far
+  pub left : passed text at done before out ≡ so-far ++ runnable (lines (drop next-at text)) next-done s (length out - n)
 
 module _ (text : List ℕ) (at done : ℕ) (before : Session) (out : List ℕ) where
   pub going-none : Going text at done before out at done before out 0
-  unfolding transcript sessionAfter
+  unfolding transcript sessionAfter offsetAfter
   going-none =
+      let room : length out ≡ length out - 0 = omega arith in
       record {
-        lines-passed = [];
+        so-far = [];
         answers = record { ends = refl; stored = refl };
         within = zero≤;
         leaves = refl;
         counts = sym (add-zero done);
-        left = refl;
-        passes = omega arith;
+        stands = refl;
+        left = ap (runnable (lines (drop at text)) done before) room;
       }
 
   pub going-more : (k end d : ℕ) (s : Session) (written : List ℕ) (n : ℕ) (said : Said) (then : Account) (new : List ℕ) →
-      Going text at done before out k d s written n → k < length text → end ≡ lineEnd text k →
+      Going text at done before out k d s written n → k < length text → oneMore d (length out - n) ≡ true → end ≡ lineEnd text k →
       GatheredMet (take (end - k) (drop k text)) (d + 1) s written n said then new →
       Going text at done before out (end + 1) (d + 1) (session (said .days) then) new (n + said .length)
-  going-more k end d s written n said then new g h e met =
+  going-more k end d s written n said then new g h goes e met =
       let line : List ℕ = take (end - k) (drop k text) in
-      let ls : List (List ℕ) = g .lines-passed in
-      let rest : List (List ℕ) = lines (drop (end + 1) text) in
-      let told : says (commandOf line) line (d + 1) s ≡ says (commandOf line) line (done + length ls + 1) (sessionAfter ls before) =
+      let ls : List (List ℕ) = g .so-far in
+      let room : ℕ = length out - n in
+      let more : List (List ℕ) = lines (drop (end + 1) text) in
+      let text-of : List ℕ = says (commandOf line) line (d + 1) s in
+      let told : text-of ≡ says (commandOf line) line (done + length ls + 1) (sessionAfter ls before) =
       ap₂ (λ (l : ℕ) (t : Session). says (commandOf line) line (l + 1) t) (g .counts) (g .leaves) in
+      let long : said .length ≡ length text-of = omega (arith, met .answers .ends) in
+      let smaller : room - length text-of ≡ length out - (n + said .length) = omega arith in
+      let width : length line ≡ end - k = length-take-le (end - k) (drop k text) (omega (arith, line-within text k end h e, length-drop k text)) in
       record {
-        lines-passed = ls ++ (line ∷ []);
-        answers = rw (transcript-more ls line done before, ← told) (then-laid (g .answers) (met .answers));
-        within = met .within;
-        leaves = met .leaves ∙ ap (next (commandOf line) line) (g .leaves) ∙ sym (session-more ls line before);
+        so-far = ls ++ (line ∷ []);
+        answers = rw (transcript-more line ls done before, ← told) (then-laid (g .answers) (met .answers));
+        within = omega (arith, long, says-short (commandOf line) line (d + 1) s, room-left d room goes);
+        leaves = met .leaves ∙ ap (next (commandOf line) line) (g .leaves) ∙ sym (session-more line ls before);
         counts = omega (arith, g .counts, length-append ls (line ∷ []));
+        stands = omega (arith, offset-more line ls at, g .stands, width, line-within text k end h e);
         left =
             g .left ∙
-            ap (λ (t : List (List ℕ)). ls ++ t) (lines-next text k end h e) ∙
-            sym (append-assoc ls (line ∷ []) rest);
-        passes = omega (arith, g .passes, line-within text k end h e);
+            ap (λ (t : List (List ℕ)). ls ++ runnable t d s room) (lines-next text k end h e) ∙
+            ap (λ (t : List (List ℕ)). ls ++ t) (runnable-more d s room line more goes ∙ ap₂ (λ (t : Session) (r : ℕ). line ∷ runnable more (d + 1) t r) (sym (met .leaves)) smaller) ∙
+            sym (append-assoc ls (line ∷ []) (runnable more (d + 1) (session (said .days) then) (length out - (n + said .length))));
       }
 
-  nothing : (ls : List (List ℕ)) (n : ℕ) (written : List ℕ) → LaidOut 0 (transcript ls done before) out n written → length ls ≡ 0 → n ≡ 0
-  unfolding transcript
-  nothing [] n written laid none = laid .ends
-  nothing (x ∷ ls) n written laid none = absurd (omega arith)
-
-  -- a run that stops: only at the end of the script, or where the slice may not hold one more answer
+  -- a run that stops
   pub ran-met : (ran : Ran) (then : Account) (written : List ℕ) →
       Going text at done before out (ran .at) (ran .done) (session (ran .days) then) written (ran .length) →
-      (ran .at ≤ at → ran .done ≤ done → ran .length ≡ 0 → at < length text → longest ≤ length out → done < 18_446_744_073_709_551_615 → ⊥) →
-      RunMet text at done before out ran then written
+      (ltb (ran .at) (length text) && oneMore (ran .done) (length out - ran .length)) ≡ false →
+      RunMet text at done before out ran then written text
   ran-met ran then written g stops =
-      let ls : List (List ℕ) = g .lines-passed in
-      let rest : List (List ℕ) = lines (drop (ran .at) text) in
-      let same : ls ≡ passed text at done ran =
-      sym (ap (take (ran .done - done)) (g .left) ∙ take-at ls rest (ran .done - done) (omega (arith, g .counts))) in
+      let ls : List (List ℕ) = g .so-far in
+      let same : ls ≡ passed text at done before out =
+      sym (g .left ∙ ap (λ (t : List (List ℕ)). ls ++ t) (stopped (ran .done) (session (ran .days) then) (length out - ran .length) text (ran .at) stops) ∙ append-nil ls) in
       record {
         answers = subst (λ (l : List (List ℕ)). LaidOut 0 (transcript l done before) out (ran .length) written) same (g .answers);
-        within = g .within;
         leaves = g .leaves ∙ ap (λ (l : List (List ℕ)). sessionAfter l before) same;
         counts = g .counts ∙ ap (λ (l : List (List ℕ)). done + length l) same;
-        left = g .left ∙ ap (λ (l : List (List ℕ)). l ++ rest) same;
-        passes = g .passes;
-        goes-on = λ more holds few. by more holds few (decLe (ran .at) at);
+        stands = g .stands ∙ ap (offsetAfter at) same;
+        stays = refl;
       }
-    where
-      by : at < length text → longest ≤ length out → done < 18_446_744_073_709_551_615 → Dec (ran .at ≤ at) → at < ran .at
-      by more holds few (yes h) =
-          let still : ran .done ≤ done = omega (arith, g .passes) in
-          absurd (stops h still (nothing (g .lines-passed) (ran .length) written (g .answers) (omega (arith, g .counts))) more holds few)
-      by more holds few (no h) = omega arith

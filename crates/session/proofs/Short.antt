@@ -8,7 +8,7 @@ use lib.Dec.{eqb}
 use lib.ListN.{length, length-append}
 use Rattle.layout.specs.Text.{doneText, refusalText}
 use Rattle.layout.proofs.Decimal.{decimal-most}
-use Rattle.report.proofs.Fits.{refusal-most, account-most}
+use Rattle.layout.proofs.Fits.{refusal-most, account-most}
 use Rattle.script.specs.declared.Command.{Command}
 use Rattle.script.specs.declared.Command.the-variants.{Blank, Unknown, Weights, Days, Change, Statement}
 use Rattle.session.specs.Buffers.{held}

@@ -31,5 +31,5 @@ module _ (o : Outcome) (s : Session) (opened : Opened) (then : Account) (met : O
   pub opened-session : (days : ℕ) → days ≡ cond (eqb (opened .number) 0) (opened .days) (s .days) → session days then ≡ openedSession o s
   opened-session days is =
       ap₂ session
-      (is ∙ ap₂ (λ (number n : ℕ). cond (eqb number 0) n (s .days)) (met .answers) (met .counts))
+      (is ∙ ap₂ (λ (number n : ℕ). cond (eqb number 0) n (s .days)) (met .answers) (met .returns))
       (met .leaves)

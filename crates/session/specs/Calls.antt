@@ -66,7 +66,7 @@ opensNumber ws b = row (ltb (length (b .weights)) (length ws)) 3 (openNumber (ca
 abbrev pub openedNumber : Outcome → Account → ℕ
 openedNumber o b = cond (eqb (o .number) 0) (opensNumber (o .memory) b) (o .number)
 
--- "A refused `weights` or `days` leaves the account as it was."
+-- a refused `weights` or `days` leaves the account as it was
 abbrev pub openedDays : Outcome → Account → ℕ
 openedDays o b = cond (eqb (openedNumber o b) 0) (length (o .memory)) 0
 
@@ -76,5 +76,5 @@ openedBuffers o b = cond (eqb (openedNumber o b) 0) (laid (cleared (candidate (o
 pub record OpenedMet (o : Outcome) (before : Account) (opened : Opened) (then : Account) : Type 0 where
   pub answers : opened .number ≡ openedNumber o before
   pub places : opened .place ≡ o .place
-  pub counts : opened .days ≡ openedDays o before
+  pub returns : opened .days ≡ openedDays o before
   pub leaves : then ≡ openedBuffers o before

@@ -2,3 +2,4 @@ pub mod Buffers
 pub mod Calls
 pub mod Lines
 pub mod Transcript
+pub mod Script

@@ -1,5 +1,6 @@
--- What a line of a script says and does: "for each call one answer: `done`, or `refused NUMBER PLACE`, or the statement"; "empty lines and
--- lines that begin with `#` print nothing"; "a line that is no call prints `unknown LINE` and changes nothing".
+-- What a line of a script says and does: for each call one answer, `done`, or `refused NUMBER PLACE`, or the statement. Empty lines and lines
+-- that begin with `#` print nothing; a line that is no call, or has a number that the call's type can't hold, prints `unknown LINE` and
+-- changes nothing.
 use Prim.Native.Nat.{ℕ}
 use mathlib.Core.Path.{_≡_}
 use mathlib.Core.Bool.{cond}
@@ -8,7 +9,7 @@ use lib.Dec.{eqb}
 use Rattle.account.specs.Account.{Account}
 use Rattle.weights.specs.Weights.{Outcome}
 use Rattle.layout.specs.Text.{doneText, refusalText, unknownText, LaidOut}
-use Rattle.report.specs.Report.{accountText}
+use Rattle.layout.specs.Accounts.{accountText}
 use Rattle.script.specs.Calls.{commandOf}
 use Rattle.script.specs.declared.Command.{Command}
 use Rattle.script.specs.declared.Command.the-variants.{Blank, Unknown, Weights, Days, Change, Statement}

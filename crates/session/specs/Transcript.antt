@@ -1,13 +1,14 @@
--- What a whole script prints: "one call a line", "for each call one answer", "its number counted from 1".
-use Prim.Native.Nat.{ℕ, _+_, _-_, _≤_, _<_}
+-- What lines of a script print, and a run of them: one call a line, for each call one answer, lines counted from 1.
+use Prim.Native.Nat.{ℕ, _+_, _-_, _≤_}
 use mathlib.Core.Path.{_≡_}
-use mathlib.Core.Bool.{cond}
+use mathlib.Core.Bool.{Bool, cond, _&&_}
 use mathlib.Core.List.{List, [], _∷_, _++_}
-use lib.Dec.{eqb}
-use lib.ListN.{length, take, drop}
+use lib.Dec.{eqb, ltb, leb}
+use lib.ListN.{length, drop}
 use Rattle.account.specs.Account.{Account}
 use Rattle.layout.specs.Text.{LaidOut}
-use Rattle.report.specs.Report.{textMost}
+use Rattle.layout.specs.Accounts.{textMost}
+use Rattle.script.specs.Numbers.{most64}
 use Rattle.script.specs.Calls.{commandOf}
 use Rattle.session.specs.Lines.{Session, session, says, next}
 use Rattle.session.specs.declared.Said.{Said}
@@ -23,8 +24,7 @@ unfoldable pub lines : List ℕ → List (List ℕ)
 lines [] = []
 lines (x ∷ s) = cond (eqb x 10) ([] ∷ lines s) (begun x (lines s))
 
--- what lines print, from a session on, after so many lines before them, and the session after them. A script prints what all its lines
--- print after none, from a session without days.
+-- what lines print, from a session on, after so many lines before them, and the session after them
 unfoldable pub transcript : List (List ℕ) → ℕ → Session → List ℕ
 transcript [] before s = []
 transcript (line ∷ rest) before s =
@@ -44,17 +44,32 @@ pub record GatheredMet (line : List ℕ) (l : ℕ) (before : Session) (out : Lis
   pub within : filled + said .length ≤ length written
   pub leaves : session (said .days) then ≡ next (commandOf line) line before
 
--- the lines that a run from an offset on passed: as many as it did, the first of those from there
-abbrev pub passed : List ℕ → ℕ → ℕ → Ran → List (List ℕ)
-passed text at done ran = take (ran .done - done) (lines (drop at text))
+-- one more line is run while its number has 64 bits and the room left can hold any answer
+abbrev pub oneMore : ℕ → ℕ → Bool
+oneMore done room = ltb done most64 && leb longest room
 
--- a script run from an offset on, after so many lines: the answers of the lines passed stand at the start of the lent slice, all of them, and
--- the lines after those are left. A line is passed wherever one is left and the slice can hold an answer.
-pub record RunMet (text : List ℕ) (at done : ℕ) (before : Session) (out : List ℕ) (ran : Ran) (then : Account) (written : List ℕ) : Type 0 where
-  pub answers : LaidOut 0 (transcript (passed text at done ran) done before) out (ran .length) written
-  pub within : ran .length ≤ length written
-  pub leaves : session (ran .days) then ≡ sessionAfter (passed text at done ran) before
-  pub counts : ran .done ≡ done + length (passed text at done ran)
-  pub left : lines (drop at text) ≡ passed text at done ran ++ lines (drop (ran .at) text)
-  pub passes : ran .done + at ≤ done + ran .at
-  pub goes-on : at < length text → longest ≤ length out → done < 18_446_744_073_709_551_615 → at < ran .at
+-- those of the lines that are run, after so many lines and with so much room
+unfoldable pub runnable : List (List ℕ) → ℕ → Session → ℕ → List (List ℕ)
+runnable [] done s room = []
+runnable (line ∷ rest) done s room =
+    cond (oneMore done room)
+    (line ∷ runnable rest (done + 1) (next (commandOf line) line s) (room - length (says (commandOf line) line (done + 1) s)))
+    []
+
+-- the lines that a run passes: of those from an offset on, with a slice for their answers
+abbrev pub passed : List ℕ → ℕ → ℕ → Session → List ℕ → List (List ℕ)
+passed text at done s out = runnable (lines (drop at text)) done s (length out)
+
+-- the offset after lines, each with one byte that ends it: one past the end of a text whose last line has no line feed
+unfoldable pub offsetAfter : ℕ → List (List ℕ) → ℕ
+offsetAfter at [] = at
+offsetAfter at (line ∷ rest) = offsetAfter (at + length line + 1) rest
+
+-- a script run from an offset on, after so many lines: the answers of the lines passed stand at the start of the lent slice, and the offset,
+-- the lines done, the days and the buffers are those after them
+pub record RunMet (text : List ℕ) (at done : ℕ) (before : Session) (out : List ℕ) (ran : Ran) (then : Account) (written kept : List ℕ) : Type 0 where
+  pub answers : LaidOut 0 (transcript (passed text at done before out) done before) out (ran .length) written
+  pub leaves : session (ran .days) then ≡ sessionAfter (passed text at done before out) before
+  pub counts : ran .done ≡ done + length (passed text at done before out)
+  pub stands : ran .at ≡ offsetAfter at (passed text at done before out)
+  pub stays : kept ≡ text

@@ -1,15 +1,17 @@
 // One line of a script, its answer gathered after others in a lent slice.
 use crate::Said;
 use crate::step;
-ghost use Prim.Native.Nat.{_+_, _≤_};
-ghost use lib.ListN.{length};
+ghost use Prim.Native.Nat.{_+_, _-_, _≤_};
+ghost use lib.ListN.{length, take, drop};
 ghost use Rattle.account.specs.Account.{account};
 ghost use Rattle.session.specs.Lines.{session};
 ghost use Rattle.session.specs.Transcript.{GatheredMet, longest};
 
-// One line, its answer put after the first bytes of out.
+// The line from one offset to another, its answer put after the first bytes of out.
 pub(crate) fn gather(
-    line: &[u8],
+    text: &[u8],
+    at: usize,
+    end: usize,
     number: usize,
     days: usize,
     weights: &mut [u32],
@@ -18,11 +20,11 @@ pub(crate) fn gather(
     out: &mut [u8],
     filled: usize,
 ) -> Said
-    requires { ⌜ filled + longest ≤ length (now out) ⌝ }
-    ensures { λ r. ⌜ GatheredMet (now (line .entry)) number (session days (account (now (weights .entry)) (now (marks .entry)) (now (counts .entry)))) (now (out .entry)) filled r (account (now (weights .exit)) (now (marks .exit)) (now (counts .exit))) (now (out .exit)) ⌝ }
+    requires { ⌜ (at ≤ end) × (end ≤ length (now text)) × (filled + longest ≤ length (now out)) ⌝ }
+    ensures { λ r. ⌜ GatheredMet (take (end - at) (drop at (now (text .entry)))) number (session days (account (now (weights .entry)) (now (marks .entry)) (now (counts .entry)))) (now (out .entry)) filled r (account (now (weights .exit)) (now (marks .exit)) (now (counts .exit))) (now (out .exit)) ⌝ }
 {
     step(
-        line,
+        &text[at..end],
         number,
         days,
         weights,

@@ -1,12 +1,13 @@
 // A session of the console: each line of a script, done on buffers that hold an account.
-mod cuts;
+mod buffers;
 mod gathered;
 mod open;
 
 use account::number_of;
-use cuts::boundaries;
-use cuts::days_of;
+use buffers::boundaries;
+use buffers::days_of;
 use gathered::gather;
+use layout::account_text;
 use layout::done_text;
 use layout::refusal_text;
 use layout::unknown_text;
@@ -14,28 +15,28 @@ use profile::Profile;
 use script::Call;
 use script::Command;
 ghost use mathlib.Core.Path.{_≡_};
-ghost use mathlib.Core.Bool.{cond};
-ghost use lib.Dec.{eqb};
+ghost use mathlib.Core.Bool.{cond, _&&_};
+ghost use lib.Dec.{eqb, ltb};
 ghost use Rattle.account.specs.Account.{account};
 ghost use Rattle.layout.specs.Text.{LaidOut};
-ghost use Rattle.report.specs.Report.{accountText};
+ghost use Rattle.layout.specs.Accounts.{accountText};
 ghost use Rattle.session.specs.Buffers.{held};
 ghost use Rattle.session.specs.Calls.{CallMet, ChangeMet, OpenedMet, weightsOffer, daysOffer};
 ghost use Rattle.session.specs.Lines.{answerText, session, StepMet};
-ghost use Rattle.session.specs.Transcript.{RunMet};
+ghost use Rattle.session.specs.Transcript.{RunMet, oneMore};
 
 // No answer is longer.
-const LONGEST: usize = 72_390;
+const LONGEST: usize = layout::TEXT_MOST;
 
 // What opening an account answers: 0 and its days, or the number of a refusal and its place.
-pub struct Opened {
+pub(crate) struct Opened {
     pub number: u8,
     pub place: usize,
     pub days: usize,
 }
 
 // What a line comes to: the days of the account after it, and how long its answer is.
-pub struct Said {
+pub(crate) struct Said {
     pub days: usize,
     pub length: usize,
 }
@@ -48,7 +49,7 @@ pub struct Ran {
     pub length: usize,
 }
 
-// The lines of a script from an offset on, after so many done: their answers at the start of out, as long as it can hold one more.
+// The lines of a script from an offset on, after so many done: their answers at the start of out, as long as it can hold any one more.
 pub fn run(
     text: &[u8],
     at: usize,
@@ -59,23 +60,19 @@ pub fn run(
     counts: &mut [u64],
     out: &mut [u8],
 ) -> Ran
-    ensures { λ r. ⌜ RunMet (now (text .entry)) at done (session days (account (now (weights .entry)) (now (marks .entry)) (now (counts .entry)))) (now (out .entry)) r (account (now (weights .exit)) (now (marks .exit)) (now (counts .exit))) (now (out .exit)) ⌝ }
+    ensures { λ r. ⌜ RunMet (now (text .entry)) at done (session days (account (now (weights .entry)) (now (marks .entry)) (now (counts .entry)))) (now (out .entry)) r (account (now (weights .exit)) (now (marks .exit)) (now (counts .exit))) (now (out .exit)) (now (text .exit)) ⌝ }
 {
     let mut at = at;
     let mut done = done;
     let mut days = days;
     let mut length = 0;
-    while at < text.len() {
-        if out.len() - length < LONGEST {
-            break;
-        }
-        if usize::MAX <= done {
-            break;
-        }
+    while one_more(at, text.len(), done, out.len() - length) {
         let end = script::line_end(text, at);
         done += 1;
         let said = gather(
-            &text[at..end],
+            text,
+            at,
+            end,
             done,
             days,
             weights,
@@ -94,6 +91,19 @@ pub fn run(
         days,
         length,
     }
+}
+
+// Whether one more line is run: one is left, its number has 64 bits, and the room left can hold any answer.
+fn one_more(at: usize, end: usize, done: usize, room: usize) -> bool
+    ensures { λ r. ⌜ r ≡ (ltb at end && oneMore done room) ⌝ }
+{
+    if end <= at {
+        return false;
+    }
+    if usize::MAX <= done {
+        return false;
+    }
+    LONGEST <= room
 }
 
 // One line of a script, with its number: its answer at the start of out.
@@ -216,7 +226,7 @@ fn statement(days: usize, weights: &[u32], marks: &[u8], counts: &[u64], out: &m
     let n = days_of(days, weights.len());
     let m = boundaries(days, marks.len());
     let c = boundaries(days, counts.len());
-    report::account_text(&weights[..n], &marks[..m], &counts[..c], out)
+    account_text(&weights[..n], &marks[..m], &counts[..c], out)
 }
 
 // The answer of a call with a number and a place, at the start of out.

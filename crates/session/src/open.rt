@@ -1,6 +1,6 @@
 // Opening an account over weights, and over the weights of means.
 use crate::Opened;
-use crate::cuts::boundaries;
+use crate::buffers::boundaries;
 use account::number_of;
 use profile::Profile;
 use weights::WeightsAnswer;
@@ -8,8 +8,9 @@ ghost use mathlib.Core.Path.{_≡_};
 ghost use mathlib.Core.List.{_++_};
 ghost use Prim.Native.Nat.{_≤_, _-_};
 ghost use lib.ListN.{length, take, drop, replicate};
+ghost use Rattle.profile.specs.Limits.{spanMost};
 ghost use Rattle.account.specs.Account.{account};
-ghost use Rattle.weights.specs.Weights.{outcome};
+ghost use Rattle.weights.specs.Weights.{outcome, number, place};
 ghost use Rattle.session.specs.Calls.{offered, OpenedMet};
 
 // An account over the first weights of a list, opened in the buffers.
@@ -50,7 +51,7 @@ pub(crate) fn over_means(
     marks: &mut [u8],
     counts: &mut [u64],
 ) -> Opened
-    requires { ⌜ 1096 ≤ length (now fresh) ⌝ }
+    requires { ⌜ spanMost ≤ length (now fresh) ⌝ }
     ensures { λ r. ⌜ OpenedMet (outcome profile weekday (now (means .entry)) (replicate (length (now (means .entry)) - 3) 0)) (account (now (weights .entry)) (now (marks .entry)) (now (counts .entry))) r (account (now (weights .exit)) (now (marks .exit)) (now (counts .exit))) ⌝ }
 {
     if means.len() < 4 {
@@ -61,8 +62,23 @@ pub(crate) fn over_means(
         return refused(3, 0);
     }
     let answer = weights::weights(profile, weekday, means, &mut fresh[..n]);
+    let told = answered(answer);
+    if told.number == 0 {
+        return over(&fresh[..], n, weights, marks, counts);
+    }
+    told
+}
+
+// The number and the place of what the weights call answered: no days.
+fn answered(answer: WeightsAnswer) -> Opened
+    ensures { λ r. ⌜ (r .number ≡ number answer) × (r .place ≡ place answer) × (r .days ≡ 0) ⌝ }
+{
     match answer {
-        WeightsAnswer::Done => over(&fresh[..], n, weights, marks, counts),
+        WeightsAnswer::Done => Opened {
+            number: 0,
+            place: 0,
+            days: 0,
+        },
         WeightsAnswer::Unfit => refused(3, 0),
         WeightsAnswer::NoProfile => refused(1, 0),
         WeightsAnswer::NoWeekday => refused(2, 0),

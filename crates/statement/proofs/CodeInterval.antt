@@ -16,7 +16,8 @@ use Rattle.statement.specs.Split.{weightSum, shareOf, between, has}
 use Rattle.statement.specs.Parts.{Outputs, marked}
 use Rattle.statement.specs.Shares.{Adjacent}
 use Rattle.statement.specs.Progress.{Checked, Interval, Written, Splittable, Summable, Addable, withPart, nextPart}
-use Rattle.statement.proofs.Order.{Fair, read, adjacent-rise}
+use Rattle.statement.proofs.Order.{read, adjacent-rise}
+use Rattle.statement.specs.Facts.{Fair}
 use Rattle.statement.proofs.Parts.{Ends}
 use Rattle.statement.proofs.Sums.{sum-splits, sum-positive}
 use Rattle.statement.proofs.Has.{has-reading, has-between, has-mono}

@@ -13,7 +13,8 @@ use Rattle.account.specs.Slices.{Fit}
 use Rattle.account.proofs.Boundaries.{clash, first-found, first-least, rising}
 use Rattle.account.proofs.Sound.{Sound, fit, sound-parts}
 use Rattle.statement.specs.Progress.{Checked}
-use Rattle.statement.proofs.Order.{Fair, fair-of-sound}
+use Rattle.statement.proofs.Order.{fair-of-sound}
+use Rattle.statement.specs.Facts.{Fair}
 
 module _ (a : Account) (c : Checked a) where
   pub checked-fit : Fit a

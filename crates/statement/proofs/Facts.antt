@@ -15,10 +15,11 @@ use Rattle.account.proofs.Boundaries.{found, first-least, last-found, last-most
 use Rattle.statement.specs.Split.{weightSum, shareOf, between, earlier, later}
 use Rattle.statement.specs.Parts.{Outputs, marked, parts}
 use Rattle.statement.specs.Shares.{Adjacent, Shared, total, energy}
-use Rattle.statement.proofs.Order.{Fair, Read, read}
+use Rattle.statement.specs.Facts.{Fair, TwoRead, statementOf, SumsUp, SharesClose, SameEnergy}
+use Rattle.statement.proofs.Order.{Read, read}
 use Rattle.statement.proofs.Has.{has-reading, has-between}
 use Rattle.statement.proofs.Near.{near}
-use Rattle.statement.proofs.Parts.{statementOf, energy-written, each-written}
+use Rattle.statement.proofs.Parts.{energy-written, each-written}
 use Rattle.statement.proofs.Telescope.{lies, telescopes}
 
 -- where every part lies between a and b, the total is the energy between them
@@ -34,51 +35,46 @@ some-read n r two =
     let k = found (r .at) (suc n) (omega (arith, ltb-false (howMany (r .at) (suc n)) 2 two)) in
     read n r (k .0) (omega (arith, k .1)) (k .2)
 
--- fewer than two readings is not the case
-abbrev pub TwoRead : List ℕ → Stands → Type 0
-TwoRead w s = ltb (howMany (s .readings .at) (suc (length w))) 2 ≡ false
+-- the parts add up to last less first
+pub sums-up : SumsUp
+unfolding lastLessFirst
+sums-up w s fair two =
+    let r = s .readings in
+    let n = length w in
+    let is = some-read n r two in
+    let f = firstReading n r in
+    let l = lastReading n r in
+    let f≤l = last-most (r .at) (is .last) (is .first .below) (is .first .holds) in
+    let mark-f : marked s f ≡ true = rw (is .first .holds) in
+    let mark-l : marked s l ≡ true = rw (is .last .holds) in
+    let starts : (k : ℕ) → f < k → f ≤ last (marked s) k =
+    λ k h. last-most (marked s) (last-found (marked s) k f h mark-f) h mark-f in
+    let inside = each-written w s (λ from to wh. (f ≤ from) × (to ≤ l)) (λ k ends. (starts k (ends .after), ends .upto)) in
+    omega (
+      arith,
+      total-energy (statementOf w s) f l (length (parts w s)) inside,
+      energy-written f l n (parts w s),
+      telescopes w s is fair f l mark-f mark-l (omega arith) f≤l (omega arith),
+      has-reading w r f (is .first .holds),
+      has-reading w r l (is .last .holds),
+    )
+
+-- each part is less than 1 Wh from its exact share
+pub shared : SharesClose
+shared w s fair two =
+    each-written w s (Shared w (s .readings)) λ k ends.
+    let l = lies w s (some-read (length w) (s .readings) two) k ends in
+    let e = l .encloses in
+    record {
+      p = earlier (s .readings) k;
+      q = later (length w) (s .readings) k;
+      adjacent = e .adjacent;
+      starts = l .starts;
+      ends = e .upto;
+      near = near w (s .readings) fair _ _ (e .adjacent) (e .inside) _ k (l .starts) (omega arith) (e .upto);
+    }
 
 module _ (w : List ℕ) (s : Stands) (fair : Fair w (s .readings)) where
-  -- "Its parts add up exactly to the last standing reading less the first."
-  pub sums-up : TwoRead w s → total (statementOf w s) (length (parts w s)) ≡ lastLessFirst (length w) (s .readings)
-  unfolding lastLessFirst
-  sums-up two =
-      let r = s .readings in
-      let n = length w in
-      let is = some-read n r two in
-      let f = firstReading n r in
-      let l = lastReading n r in
-      let f≤l = last-most (r .at) (is .last) (is .first .below) (is .first .holds) in
-      let mark-f : marked s f ≡ true = rw (is .first .holds) in
-      let mark-l : marked s l ≡ true = rw (is .last .holds) in
-      let starts : (k : ℕ) → f < k → f ≤ last (marked s) k =
-      λ k h. last-most (marked s) (last-found (marked s) k f h mark-f) h mark-f in
-      let inside = each-written w s (λ from to wh. (f ≤ from) × (to ≤ l)) (λ k ends. (starts k (ends .after), ends .upto)) in
-      omega (
-        arith,
-        total-energy (statementOf w s) f l (length (parts w s)) inside,
-        energy-written f l n (parts w s),
-        telescopes w s is fair f l mark-f mark-l (omega arith) f≤l (omega arith),
-        has-reading w r f (is .first .holds),
-        has-reading w r l (is .last .holds),
-      )
-
-  -- "Each part is less than 1 Wh from its exact share between its two enclosing readings."
-  pub shared : TwoRead w s → (i : ℕ) → i < length (parts w s) →
-      Shared w (s .readings) (getD (statementOf w s .from) i 0) (getD (statementOf w s .to) i 0) (getD (statementOf w s .wh) i 0)
-  shared two =
-      each-written w s (Shared w (s .readings)) λ k ends.
-      let l = lies w s (some-read (length w) (s .readings) two) k ends in
-      let e = l .encloses in
-      record {
-        p = earlier (s .readings) k;
-        q = later (length w) (s .readings) k;
-        adjacent = e .adjacent;
-        starts = l .starts;
-        ends = e .upto;
-        near = near w (s .readings) fair _ _ (e .adjacent) (e .inside) _ k (l .starts) (omega arith) (e .upto);
-      }
-
   -- the energy between a reading and a marked boundary is the boundary's share of what the next reading has more
   pub energy-is : (p q b : ℕ) → Adjacent (s .readings) p q → q ≤ length w → p ≤ b → b ≤ q → marked s b ≡ true →
       energy (statementOf w s) p b (length (parts w s)) ≡
@@ -98,11 +94,6 @@ module _ (w : List ℕ) (s : Stands) (fair : Fair w (s .readings)) where
         has-between w r fair p q a inside b low high,
       )
 
--- "Where the same two adjacent readings with the same counts enclose a marked boundary in two statements .., the energy between the
--- earlier of them and that boundary is the same in both."
-pub same-energy : (w : List ℕ) (s t : Stands) → Fair w (s .readings) → Fair w (t .readings) → (p q b : ℕ) →
-    Adjacent (s .readings) p q → Adjacent (t .readings) p q → s .readings .count p ≡ t .readings .count p →
-    s .readings .count q ≡ t .readings .count q → q ≤ length w → p ≤ b → b ≤ q → marked s b ≡ true → marked t b ≡ true →
-    energy (statementOf w s) p b (length (parts w s)) ≡ energy (statementOf w t) p b (length (parts w t))
+pub same-energy : SameEnergy
 same-energy w s t fair-s fair-t p q b adj-s adj-t same-p same-q inside low high mark-s mark-t =
     rw (energy-is w s fair-s p q b adj-s inside low high mark-s, energy-is w t fair-t p q b adj-t inside low high mark-t, same-p, same-q)

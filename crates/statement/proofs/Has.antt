@@ -12,7 +12,8 @@ use Rattle.rounding.proofs.Laws.{nearest-multiple, nearest-mono}
 use Rattle.account.specs.Stands.{Readings}
 use Rattle.statement.specs.Split.{weightSum, shareOf, between, has}
 use Rattle.statement.specs.Shares.{Adjacent}
-use Rattle.statement.proofs.Order.{Fair, Encloses, earlier-is, later-is, adjacent-rise}
+use Rattle.statement.specs.Facts.{Fair, EnclosedOnly}
+use Rattle.statement.proofs.Order.{Encloses, earlier-is, later-is, adjacent-rise}
 use Rattle.statement.proofs.Sums.{sum-empty, sum-splits, sum-positive, sum-same}
 
 pub share-none : (e z : ℕ) → 0 < z → shareOf e 0 z ≡ 0
@@ -67,10 +68,7 @@ module _ (w : List ℕ) (r : Readings) (fair : Fair w r) (p q : ℕ) (a : Adjace
       rw (has-between j low (omega arith), has-between k (omega arith) high)
       (omega (arith, share-mono (r .count q - r .count p) _ _ (weightSum w p q) more))
 
--- what a boundary has depends only on its two enclosing readings, their counts and the weights between
-pub has-only : (v w : List ℕ) (r s : Readings) → Fair v r → Fair w s → (p q : ℕ) → Adjacent r p q → Adjacent s p q →
-    q ≤ length v → q ≤ length w → r .count p ≡ s .count p → r .count q ≡ s .count q →
-    ((d : ℕ) → p ≤ d → d < q → getD v d 0 ≡ getD w d 0) → (k : ℕ) → p ≤ k → k ≤ q → has v r k ≡ has w s k
+pub has-only : EnclosedOnly
 unfolding between
 has-only v w r s fair-r fair-s p q adj-r adj-s in-v in-w same-p same-q same k low high =
     rw (

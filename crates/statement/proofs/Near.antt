@@ -9,7 +9,7 @@ use Rattle.rounding.proofs.Laws.{nearest-is}
 use Rattle.account.specs.Stands.{Readings}
 use Rattle.statement.specs.Split.{weightSum, shareOf, between, has}
 use Rattle.statement.specs.Shares.{Adjacent, NearShare}
-use Rattle.statement.proofs.Order.{Fair}
+use Rattle.statement.specs.Facts.{Fair}
 use Rattle.statement.proofs.Sums.{sum-splits, sum-positive}
 use Rattle.statement.proofs.Has.{has-between, has-mono}
 

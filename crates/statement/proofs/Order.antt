@@ -13,11 +13,7 @@ use Rattle.account.proofs.Boundaries.{IsFirst, IsLast, both, clash, refuted, fi
 use Rattle.account.proofs.Sound.{sound-parts}
 use Rattle.statement.specs.Split.{earlier, later}
 use Rattle.statement.specs.Shares.{Adjacent}
-
--- all that the rule's own facts ask of the weights and of the readings that stand
-pub record Fair (w : List ℕ) (r : Readings) : Type 0 where
-  pub weights : goodWeights w ≡ true
-  pub rises : neverFalling r (suc (length w)) ≡ true
+use Rattle.statement.specs.Facts.{Fair}
 
 pub fair-of-sound : (a : Account) → sound a ≡ true → Fair (a .weights) (shown a .readings)
 fair-of-sound a h = let s = sound-parts a h in record { weights = s .weights; rises = s .order }

@@ -15,6 +15,7 @@ use Rattle.account.specs.Stands.{Stands, firstReading, lastReading}
 use Rattle.account.proofs.Boundaries.{both}
 use Rattle.statement.specs.Parts.{Part, Outputs, marked, endsPart, partTo, partsBelow, parts, padded, written}
 use Rattle.statement.specs.Shares.{energy}
+use Rattle.statement.specs.Facts.{statementOf}
 
 at-most-one : (b : Bool) (x : Part) → length (cond b (x ∷ []) []) ≤ 1
 at-most-one true x = omega arith
@@ -105,10 +106,6 @@ energy-same w s a b m none = go (endsPart w s m) refl
     go : (t : Bool) → endsPart w s m ≡ t → energyOf a b (partsBelow w s (suc m)) ≡ energyOf a b (partsBelow w s m)
     go true e = let is = ends-is w s m e in omega (arith, energy-more w s a b m is, none is)
     go false e = rw (e, append-nil)
-
--- the slices of a statement given
-abbrev pub statementOf : List ℕ → Stands → Outputs
-statementOf w s = written (length w) (parts w s)
 
 abbrev noPart : Part
 noPart = record { from = 0; to = 0; wh = 0 }

@@ -12,7 +12,8 @@ use Rattle.account.specs.Stands.{Stands, firstReading, lastReading}
 use Rattle.account.proofs.Boundaries.{clash, last-found, last-most}
 use Rattle.statement.specs.Split.{earlier, later, has}
 use Rattle.statement.specs.Parts.{marked, partTo, partsBelow, parts}
-use Rattle.statement.proofs.Order.{Fair, Read, Encloses, enclosed}
+use Rattle.statement.specs.Facts.{Fair}
+use Rattle.statement.proofs.Order.{Read, Encloses, enclosed}
 use Rattle.statement.proofs.Has.{has-mono}
 use Rattle.statement.proofs.Parts.{Ends, energyOf, counts, not-before, not-after, energy-more, energy-same}
 

@@ -1,3 +1,3 @@
--- Shared proofs of vectors: the starred cases, and the two roundings.
+-- The proofs of vectors: the starred cases, and the two roundings.
 pub mod Starred
 pub mod Rounded

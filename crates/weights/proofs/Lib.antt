@@ -1,5 +1,7 @@
 -- The laws that the proofs of this crate share.
+pub mod Half
 pub mod Raised
 pub mod Filled
 pub mod Series
+pub mod Span
 pub mod Table

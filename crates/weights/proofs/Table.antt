@@ -1,6 +1,6 @@
 -- The rows of the table for a call of `weights`: under a row's condition, and none above it, the row's answer meets the contract.
 -- Assumes nothing.
-use mathlib.Core.Path.{_≡_, _∙_, ap}
+use mathlib.Core.Path.{_≡_, refl, _∙_, ap}
 use mathlib.Core.Bool.{true, false}
 use mathlib.Core.List.{List}
 use Prim.Native.Nat.{ℕ, _+_, _-_, _%_, _≤_, _<_}
@@ -11,10 +11,11 @@ use lib.ListN.{length, getD}
 use Rattle.profile.specs.Limits.{profileCount, spanMost, weightLeast, weightMost}
 use Rattle.profile.proofs.Bounds.{weight-range}
 use Rattle.weights.specs.Means.{firstOut}
-use Rattle.weights.specs.Weights.{weightsOf, weights-length, weights-at, unfit, zeros, Ready, WeightsMet}
+use Rattle.weights.specs.Weights.{weightsOf, unfit, zeros, Ready, WeightsMet}
 use Rattle.weights.specs.declared.WeightsAnswer.the-variants.{Done, Unfit, NoProfile, NoWeekday, OutOfRange}
 use Rattle.weights.proofs.Raised.{temperature-in-range}
 use Rattle.weights.proofs.Series.{all-in}
+use Rattle.weights.proofs.Span.{weights-length, weights-at}
 
 -- every weight of a span is 1 to 6,999,999
 pub weights-bounded : (p w : ℕ) (means : List ℤ) → Ready p w means → (k : ℕ) → k < length means - 3
@@ -46,26 +47,26 @@ module _ (means : List ℤ) (before : List ℕ) where
       simp (le-leb 1 (length means - 3) (omega arith), le-leb (length means - 3) spanMost (f .span), eq-eqb (length before) (length means - 3) (f .room))
 
 module _ (p w : ℕ) (means : List ℤ) (before : List ℕ) where
-  pub unfit-met : unfit means before ≡ true → WeightsMet p w means before Unfit before
-  unfit-met u = record { number-is = simp u; place-is = simp u; after-is = simp u; bounded = λ z. absurd (omega arith) }
+  pub unfit-met : unfit means before ≡ true → WeightsMet p w means before Unfit before means
+  unfit-met u = record { number-is = simp u; place-is = simp u; after-is = simp u; bounded = λ z. absurd (omega arith); means-stay = refl }
 
   module _ (after : List ℕ) (fits : Fit means before) where
     u : unfit means before ≡ false
     u = fitting means before fits
 
-    pub profile-met : profileCount ≤ p → after ≡ zeros before → WeightsMet p w means before NoProfile after
+    pub profile-met : profileCount ≤ p → after ≡ zeros before → WeightsMet p w means before NoProfile after means
     profile-met h is =
         let e = le-leb profileCount p h in
-        record { number-is = simp (u, e); place-is = simp (u, e); after-is = simp (u, e) is; bounded = λ z. absurd (omega arith) }
+        record { number-is = simp (u, e); place-is = simp (u, e); after-is = simp (u, e) is; bounded = λ z. absurd (omega arith); means-stay = refl }
 
-    pub weekday-met : p < profileCount → 6 < w → after ≡ zeros before → WeightsMet p w means before NoWeekday after
+    pub weekday-met : p < profileCount → 6 < w → after ≡ zeros before → WeightsMet p w means before NoWeekday after means
     weekday-met hp h is =
         let e = lt-leb profileCount p hp in
         let f = lt-ltb 6 w h in
-        record { number-is = simp (u, e, f); place-is = simp (u, e, f); after-is = simp (u, e, f) is; bounded = λ z. absurd (omega arith) }
+        record { number-is = simp (u, e, f); place-is = simp (u, e, f); after-is = simp (u, e, f) is; bounded = λ z. absurd (omega arith); means-stay = refl }
 
     pub range-met : p < profileCount → w ≤ 6 → (k : ℕ) → k ≡ firstOut means → k < length means → after ≡ zeros before
-        → WeightsMet p w means before (OutOfRange k) after
+        → WeightsMet p w means before (OutOfRange k) after means
     range-met hp hw k i h is =
         let e = lt-leb profileCount p hp in
         let f = le-ltb 6 w hw in
@@ -75,9 +76,10 @@ module _ (p w : ℕ) (means : List ℤ) (before : List ℕ) where
           place-is = simp (u, e, f, g) i;
           after-is = simp (u, e, f, g) is;
           bounded = λ z. absurd (omega arith);
+          means-stay = refl;
         }
 
-    pub done-met : Ready p w means → after ≡ weightsOf p w means → WeightsMet p w means before Done after
+    pub done-met : Ready p w means → after ≡ weightsOf p w means → WeightsMet p w means before Done after means
     done-met r is =
         let e = lt-leb profileCount p (r .profiled) in
         let f = le-ltb 6 w (omega arith) in
@@ -92,4 +94,5 @@ module _ (p w : ℕ) (means : List ℤ) (before : List ℕ) where
             within = omega arith;
             each = λ k h. rw is (weights-bounded p w means r k (omega arith));
           };
+          means-stay = refl;
         }

@@ -36,6 +36,8 @@ chosen measured forecast n =
     (row (serves (forecast .now) (n + 3)) (firstOf (n + 3) forecast)
     (firstOf 0 measured)))
 
-pub record ChooseMet (measured forecast : RefT (List ℤ)) (n : ℕ) (answer : RefT (List ℤ)) : Type 0 where
+pub record ChooseMet (measured forecast : RefT (List ℤ)) (n : ℕ) (answer : RefT (List ℤ)) (measuredAfter forecastAfter : List ℤ) : Type 0 where
   pub start-is : answer .ptr ≡ chosen measured forecast n .start
   pub means-are : answer .now ≡ chosen measured forecast n .means
+  pub measured-stays : measuredAfter ≡ measured .now
+  pub forecast-stays : forecastAfter ≡ forecast .now

@@ -1,5 +1,5 @@
 -- `Temperature of a day`: "With today's mean a and those of one, two and three days before b, c, d, the allocation temperature is
--- nearest((8a+4b+2c+d)/15)." The table: the index of 4 is "0 to 3 for four means in the order a, b, c, d", "single values refused are zero".
+-- nearest((8a+4b+2c+d)/15). No half can occur." The table: the index of 4 is "0 to 3 for four means in the order a, b, c, d", "single values refused are zero".
 use mathlib.Core.Path.{_≡_}
 use mathlib.Core.List.{List, [], _∷_}
 use Prim.Native.Nat.{ℕ, _*_}
@@ -17,6 +17,10 @@ nearestℤ x d = floorℤ (pos 2 *ℤ x +ℤ pos d) (2 * d)
 unfoldable pub temperatureOf : ℤ → ℤ → ℤ → ℤ → ℤ
 temperatureOf a b c d = nearestℤ (pos 8 *ℤ a +ℤ pos 4 *ℤ b +ℤ pos 2 *ℤ c +ℤ d) 15
 
+-- "No half can occur": no whole number over 15 is an odd number over 2 (proofs/Half, `no-half`)
+abbrev pub NoHalf : Type 0
+NoHalf = (x q : ℤ) → pos 2 *ℤ x ≡ (pos 2 *ℤ q +ℤ pos 1) *ℤ pos 15 → ⊥
+
 -- an answer's number in the table (0: done), its index, and its temperature
 abbrev pub number : TemperatureAnswer → ℕ
 number (Temperature t) = 0
@@ -33,7 +37,17 @@ value (OutOfRange k) = pos 0
 abbrev pub four : ℤ → ℤ → ℤ → ℤ → List ℤ
 four a b c d = a ∷ b ∷ c ∷ d ∷ []
 
+-- what the table lays down for four means: the number, the index and the temperature
+abbrev pub temperatureNumber : ℤ → ℤ → ℤ → ℤ → ℕ
+temperatureNumber a b c d = row (someOut (four a b c d)) 4 0
+
+abbrev pub temperaturePlace : ℤ → ℤ → ℤ → ℤ → ℕ
+temperaturePlace a b c d = row (someOut (four a b c d)) (firstOut (four a b c d)) 0
+
+abbrev pub temperatureValue : ℤ → ℤ → ℤ → ℤ → ℤ
+temperatureValue a b c d = row (someOut (four a b c d)) (pos 0) (temperatureOf a b c d)
+
 pub record TemperatureMet (a b c d : ℤ) (answer : TemperatureAnswer) : Type 0 where
-  pub number-is : number answer ≡ row (someOut (four a b c d)) 4 0
-  pub place-is : place answer ≡ row (someOut (four a b c d)) (firstOut (four a b c d)) 0
-  pub value-is : value answer ≡ row (someOut (four a b c d)) (pos 0) (temperatureOf a b c d)
+  pub number-is : number answer ≡ temperatureNumber a b c d
+  pub place-is : place answer ≡ temperaturePlace a b c d
+  pub value-is : value answer ≡ temperatureValue a b c d

@@ -1,16 +1,12 @@
 -- `Temperature of a day`: "Day k, from 0, has its own mean at index k+3, and its weekday is day 0's plus k, modulo 7." The table: rows 3, 1, 2 and 4,
 -- n being "the number of means less three"; rows 1, 2 and 4 say "outputs zero", row 3 "untouched".
-use mathlib.Core.Path.{_≡_, refl, _∙_, ap}
+use mathlib.Core.Path.{_≡_}
 use mathlib.Core.Bool.{Bool, false, not, _||_}
 use mathlib.Core.List.{List, [], _∷_, _++_}
 use Prim.Native.Nat.{ℕ, zero, suc, _+_, _-_, _%_, _≤_, _<_}
-use native.Mathlib.Decide.{decLt}
-use native.Mathlib.Omega.{arith}
-use native.Mathlib.Numerals.{add-one}
 use lib.Dec.{leb, ltb, eqb}
 use lib.IntN.{ℤ, pos}
-use lib.ListN.{length, getD, replicate, length-append, List·getD-append}
-use lib.Seq.{getD-at}
+use lib.ListN.{length, getD, replicate}
 use Rattle.profile.specs.Limits.{profileCount, spanMost, weightLeast, weightMost}
 use Rattle.profile.specs.Weight.{weightOf}
 use Rattle.profile.specs.Rows.{row}
@@ -28,16 +24,16 @@ abbrev pub dayTemperature : List ℤ → ℕ → ℤ
 dayTemperature means k = temperatureOf (meanAt means (k + 3)) (meanAt means (k + 2)) (meanAt means (k + 1)) (meanAt means k)
 
 abbrev pub dayWeight : ℕ → ℕ → List ℤ → ℕ → ℕ
-dayWeight number weekday means k = weightOf number ((weekday + k) % 7) (dayTemperature means k)
+dayWeight profile weekday means k = weightOf profile ((weekday + k) % 7) (dayTemperature means k)
 
 -- f 0, f 1, .., f (n - 1)
-listOf : (ℕ → ℕ) → ℕ → List ℕ
+unfoldable pub listOf : (ℕ → ℕ) → ℕ → List ℕ
 listOf f zero = []
 listOf f (suc n) = listOf f n ++ (f n ∷ [])
 
 -- the weights of the days of a span, day 0 being a weekday of Monday 0 to Sunday 6
-pub weightsOf : ℕ → ℕ → List ℤ → List ℕ
-weightsOf number weekday means = listOf (dayWeight number weekday means) (length means - 3)
+unfoldable pub weightsOf : ℕ → ℕ → List ℤ → List ℕ
+weightsOf profile weekday means = listOf (dayWeight profile weekday means) (length means - 3)
 
 -- n is outside 1 to 1,096, or the output is not n long
 abbrev pub unfit : List ℤ → List ℕ → Bool
@@ -53,12 +49,12 @@ pub record Outcome : Type 0 where
   pub memory : List ℕ
 
 abbrev pub outcome : ℕ → ℕ → List ℤ → List ℕ → Outcome
-outcome number weekday means before =
+outcome profile weekday means before =
     row (unfit means before) (record { number = 3; place = 0; memory = before })
-    (row (leb profileCount number) (record { number = 1; place = 0; memory = zeros before })
+    (row (leb profileCount profile) (record { number = 1; place = 0; memory = zeros before })
     (row (ltb 6 weekday) (record { number = 2; place = 0; memory = zeros before })
     (row (someOut means) (record { number = 4; place = firstOut means; memory = zeros before })
-    (record { number = 0; place = 0; memory = weightsOf number weekday means }))))
+    (record { number = 0; place = 0; memory = weightsOf profile weekday means }))))
 
 -- an answer's number in the table (0: done), and its index
 abbrev pub number : WeightsAnswer → ℕ
@@ -81,39 +77,15 @@ pub record Bounded (weights : List ℕ) : Type 0 where
   pub within : length weights ≤ spanMost
   pub each : (k : ℕ) → k < length weights → (weightLeast ≤ getD weights k 0) × (getD weights k 0 ≤ weightMost)
 
-pub record WeightsMet (profile weekday : ℕ) (means : List ℤ) (before : List ℕ) (answer : WeightsAnswer) (after : List ℕ) : Type 0 where
+pub record WeightsMet (profile weekday : ℕ) (means : List ℤ) (before : List ℕ) (answer : WeightsAnswer) (after : List ℕ) (meansAfter : List ℤ) : Type 0 where
   pub number-is : number answer ≡ outcome profile weekday means before .number
   pub place-is : place answer ≡ outcome profile weekday means before .place
   pub after-is : after ≡ outcome profile weekday means before .memory
   pub bounded : number answer ≡ 0 → Bounded after
+  pub means-stay : meansAfter ≡ means
 
 -- ---- what the private functions ask: no condition of rows 1, 2 and 4 holds
 pub record Ready (profile weekday : ℕ) (means : List ℤ) : Type 0 where
   pub profiled : profile < profileCount
   pub dated : weekday < 7
   pub measured : someOut means ≡ false
-
--- ---- laws of `weightsOf`, which is shut: its length, and the weight of day k
-listOf-length : (f : ℕ → ℕ) (n : ℕ) → length (listOf f n) ≡ n
-unfolding listOf
-listOf-length f zero = refl
-listOf-length f (suc n) = length-append (listOf f n) (f n ∷ []) ∙ add-one _ ∙ ap suc (listOf-length f n)
-
-pub weights-length : (number weekday : ℕ) (means : List ℤ) → length (weightsOf number weekday means) ≡ length means - 3
-unfolding weightsOf
-weights-length number weekday means = listOf-length _ _
-
-listOf-at : (f : ℕ → ℕ) (n i : ℕ) → i < n → getD (listOf f n) i 0 ≡ f i
-unfolding listOf
-listOf-at f zero i h = absurd (omega arith)
-listOf-at f (suc n) i h = go (listOf-at f n i) (decLt i n)
-  where
-    go : (i < n → getD (listOf f n) i 0 ≡ f i) → Dec (i < n) → getD (listOf f n ++ (f n ∷ [])) i 0 ≡ f i
-    go before (yes l) = List·getD-append (listOf f n) (f n ∷ []) 0 i (omega (arith, listOf-length f n)) ∙ before l
-    go before (no g) =
-        let e : i ≡ n = omega arith in
-        rw e (getD-at (listOf f n) (f n) [] 0 n (listOf-length f n))
-
-pub weights-at : (number weekday : ℕ) (means : List ℤ) (k : ℕ) → k < length means - 3 → getD (weightsOf number weekday means) k 0 ≡ dayWeight number weekday means k
-unfolding weightsOf
-weights-at number weekday means k h = listOf-at _ _ k h

@@ -44,7 +44,7 @@ pub fn temperature(a: i16, b: i16, c: i16, d: i16) -> TemperatureAnswer
 
 // The means of a span of n days: of the measured series if it serves, else of the forecast; none where neither does.
 pub fn choose<'a>(measured: &'a [i16], forecast: &'a [i16], n: usize) -> &'a [i16]
-    ensures { λ r. ⌜ ChooseMet (measured .entry) (forecast .entry) n r ⌝ }
+    ensures { λ r. ⌜ ChooseMet (measured .entry) (forecast .entry) n r (now (measured .exit)) (now (forecast .exit)) ⌝ }
 {
     if n < 1 {
         return &measured[..0];
@@ -63,7 +63,7 @@ pub fn choose<'a>(measured: &'a [i16], forecast: &'a [i16], n: usize) -> &'a [i1
 
 // The weight of each day of a span, from its means, oldest first, and the weekday of day 0.
 pub fn weights(number: u8, weekday: u8, means: &[i16], out: &mut [u32]) -> WeightsAnswer
-    ensures { λ r. ⌜ WeightsMet number weekday (now (means .entry)) (now (out .entry)) r (now (out .exit)) ⌝ }
+    ensures { λ r. ⌜ WeightsMet number weekday (now (means .entry)) (now (out .entry)) r (now (out .exit)) (now (means .exit)) ⌝ }
 {
     if means.len() < 4 {
         return WeightsAnswer::Unfit;

@@ -109,9 +109,14 @@ impl Account {
     }
 }
 
-/// What the console prints for a script; bytes past the 65,536th are not read.
+/// What the console prints for a script; of one with more than 65,536 bytes only the lines that end within those are run.
 pub fn console(script: &[u8]) -> String {
-    let script = &script[..script.len().min(MOST_BYTES)];
+    let script = if script.len() > MOST_BYTES {
+        let feed = script[..MOST_BYTES].iter().rposition(|byte| *byte == b'\n');
+        &script[..feed.map_or(0, |feed| feed + 1)]
+    } else {
+        script
+    };
     let mut account = Account::default();
     let mut out = String::new();
     for (i, line) in script.split(|byte| *byte == b'\n').enumerate() {

@@ -81,8 +81,8 @@ pub fn lay_out(text: &str, out: &mut [u8]) -> usize {
     text.len()
 }
 
-/// No statement has so many parts in these outputs, or such a part.
+/// No statement has so many parts in these outputs, or none, or such a part.
 pub fn impossible(from: &[u16], to: &[u16], wh: &[u64], parts: usize) -> bool {
     let longest = from.len().min(to.len()).min(wh.len()).min(Profile::LONGEST);
-    parts > longest || wh[..parts].iter().any(|part| *part > 2_000_000_000)
+    parts == 0 || parts > longest || wh[..parts].iter().any(|part| *part > 2_000_000_000)
 }

@@ -147,9 +147,10 @@ fn numbers_that_just_fit() {
 }
 
 #[test]
-fn nothing_is_read_past_the_most_bytes() {
+fn no_line_is_cut_by_the_most_bytes() {
     let script = "statement\n".repeat(6_553) + "statement\nstatement\n";
-    let lines = run(&script);
+    assert_eq!(run(&script).len(), 6_553);
+    let lines = run(&script[..65_536]);
     assert_eq!(lines.len(), 6_554);
     assert_eq!(lines[6_553], "unknown 6554");
 }

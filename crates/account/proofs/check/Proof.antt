@@ -1,8 +1,11 @@
 -- `account::check` meets its contract: row 3, then the parts of soundness, one after the other. Assumes nothing.
-use mathlib.Core.Path.{_≡_, sym, _∙_}
+use Prim.Native.Nat.{ℕ}
+use mathlib.Core.Path.{_≡_, refl, sym, _∙_}
 use mathlib.Core.Bool.{true, false}
 use borrow.Author.Tests.{not-true, not-false}
 use Rattle.account.specs.Account.{Account, account, unfit, goodWeights}
+use Rattle.account.specs.Table.{accountRows}
+use Rattle.account.specs.Calls.{CheckMet}
 use Rattle.account.specs.Slices.{goodBoundaries}
 use Rattle.account.proofs.Sound.{fit}
 use Rattle.account.proofs.Rows.{unfit-rows, unsound-rows, sound-rows, weights-unsound, boundaries-unsound, energy-unsound, all-sound}
@@ -12,12 +15,16 @@ use Rattle.account.proofs.check.Tie as tie
 abbrev lent : tie.Start → Account
 lent c = account (c .args .weights .now) (c .args .marks .now) (c .args .counts .now)
 
+-- the number that the rows give
+tells : (a : Account) (n : ℕ) → accountRows a 0 ≡ n → CheckMet a n a
+tells a n e = record { answers = sym e; leaves = refl }
+
 -- what is known after each test that was not taken
 fits : (c : tie.Else1) → unfit (lent (c .before .before .before .before .before)) ≡ false
 fits c = sym (c .before .unfit .ensures) ∙ c .if1 .left
 
 weights-good : (c : tie.Else2) → goodWeights (lent (c .before .before .before .before .before .before .before) .weights) ≡ true
-weights-good c = sym (c .before .good-weights .ensures) ∙ not-false _ (c .if2 .left)
+weights-good c = sym (c .before .good-weights .ensures .says) ∙ not-false _ (c .if2 .left)
 
 boundaries-good : (c : tie.Else3) → goodBoundaries (lent (c .before .before .before .before .before .before .before .before .before)) ≡ true
 boundaries-good c = sym (c .before .good-boundaries .ensures) ∙ not-false _ (c .if3 .left)
@@ -26,7 +33,7 @@ unfit-requires : tie.Need-unfit-requires
 unfit-requires c κs = tt
 
 returns : tie.Need-returns
-returns c = sym (unfit-rows (lent (c .before .before .before .before .before)) 0 (sym (c .before .unfit .ensures) ∙ c .if1 .taken))
+returns c = tells _ _ (unfit-rows (lent (c .before .before .before .before .before)) 0 (sym (c .before .unfit .ensures) ∙ c .if1 .taken))
 
 good-weights-requires : tie.Need-good-weights-requires
 good-weights-requires c κs = tt
@@ -34,7 +41,7 @@ good-weights-requires c κs = tt
 returns-2 : tie.Need-returns-2
 returns-2 c =
     let a = lent (c .before .before .before .before .before .before .before) in
-    sym (unsound-rows a 0 (fits (c .before .before)) (weights-unsound a (sym (c .before .good-weights .ensures) ∙ not-true _ (c .if2 .taken))))
+    tells a _ (unsound-rows a 0 (fits (c .before .before)) (weights-unsound a (sym (c .before .good-weights .ensures .says) ∙ not-true _ (c .if2 .taken))))
 
 good-boundaries-requires : tie.Need-good-boundaries-requires
 good-boundaries-requires c κs = fit _ (fits (c .before .before))
@@ -42,7 +49,7 @@ good-boundaries-requires c κs = fit _ (fits (c .before .before))
 returns-3 : tie.Need-returns-3
 returns-3 c =
     let a = lent (c .before .before .before .before .before .before .before .before .before) in
-    sym
+    tells a _
     (unsound-rows a 0 (fits (c .before .before .before .before))
     (boundaries-unsound a (weights-good (c .before .before)) (sym (c .before .good-boundaries .ensures) ∙ not-true _ (c .if3 .taken))))
 
@@ -53,7 +60,7 @@ returns-4 : tie.Need-returns-4
 returns-4 c =
     let a = lent (c .before .before .before .before .before .before .before .before .before .before .before) in
     let fitting = fits (c .before .before .before .before .before .before) in
-    sym
+    tells a _
     (unsound-rows a 0 fitting
     (energy-unsound a (fit a fitting) _ (c .before .last-less-first .ensures) (weights-good (c .before .before .before .before)) (boundaries-good (c .before .before)) (c .if4 .taken)))
 
@@ -61,7 +68,7 @@ returns-5 : tie.Need-returns-5
 returns-5 c =
     let a = lent (c .before .before .before .before .before .before .before .before .before .before .before) in
     let fitting = fits (c .before .before .before .before .before .before) in
-    sym
+    tells a _
     (sound-rows a 0 fitting
     (all-sound a (fit a fitting) _ (c .before .last-less-first .ensures) (weights-good (c .before .before .before .before)) (boundaries-good (c .before .before)) (c .if4 .left)))
 

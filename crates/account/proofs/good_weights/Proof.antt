@@ -2,15 +2,16 @@
 use Prim.Native.Nat.{ℕ, _≤_, _<_, _-_}
 use native.Mathlib.Numerals.{add-one}
 use native.Mathlib.Omega.{arith}
-use mathlib.Core.Path.{_≡_, refl, sym, ap, subst, _∙_}
+use mathlib.Core.Path.{_≡_, refl, sym, subst}
 use mathlib.Core.List.{List}
-use mathlib.Core.Bool.{true, false, and-false}
+use mathlib.Core.Bool.{true, false}
 use borrow.Author.Needs.{needs}
 use borrow.Author.Tests.{le-leb, lt-leb}
 use lib.ListN.{length, getD}
 use Rattle.profile.specs.Limits.{weightLeast, weightMost}
 use Rattle.account.specs.Boundaries.{every}
 use Rattle.account.specs.Account.{goodWeight, goodWeights}
+use Rattle.account.specs.Calls.{GoodWeightsMet}
 use Rattle.account.proofs.Boundaries.{every-zero, every-more, every-fails}
 use Rattle.account.proofs.good_weights.Statement.{statement}
 use Rattle.account.proofs.good_weights.Tie as tie
@@ -24,13 +25,13 @@ heavy x l h = rw (le-leb weightLeast x l, lt-leb x weightMost h)
 good : (x : ℕ) → weightLeast ≤ x → x ≤ weightMost → goodWeight x ≡ true
 good x l h = rw (le-leb weightLeast x l, le-leb x weightMost h)
 
-fails : (w : List ℕ) (d : ℕ) → d < length w → goodWeight (getD w d 0) ≡ false → false ≡ goodWeights w
+fails : (w : List ℕ) (d : ℕ) → d < length w → goodWeight (getD w d 0) ≡ false → GoodWeightsMet w false w
 unfolding goodWeights
-fails w d l h = sym (every-fails _ _ d l h)
+fails w d l h = record { says = sym (every-fails _ _ d l h); leaves = refl }
 
-all : (w : List ℕ) (d : ℕ) → d ≡ length w → every (λ j. goodWeight (getD w j 0)) d ≡ true → true ≡ goodWeights w
+all : (w : List ℕ) (d : ℕ) → d ≡ length w → every (λ j. goodWeight (getD w j 0)) d ≡ true → GoodWeightsMet w true w
 unfolding goodWeights
-all w d e h = sym (subst (λ (m : ℕ). every (λ j. goodWeight (getD w j 0)) m ≡ true) e h)
+all w d e h = record { says = sym (subst (λ (m : ℕ). every (λ j. goodWeight (getD w j 0)) m ≡ true) e h); leaves = refl }
 
 abbrev Inv-loop : tie.InvT-loop
 Inv-loop weights d₀ d = (d ≤ length weights) × (every (λ j. goodWeight (getD weights j 0)) d ≡ true)

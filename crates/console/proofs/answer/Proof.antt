@@ -5,11 +5,13 @@ use native.Mathlib.Omega.{arith}
 use borrow.Author.Needs.{needs, zero≤}
 use lib.ListN.{length}
 use lib.Seq.{length-take-le}
+use Rattle.script.proofs.Input.{whole-within}
+use Rattle.session.proofs.Joined.{run-within, run-passes, run-goes-on}
 use Rattle.console.proofs.answer.Statement.{statement}
 use Rattle.console.proofs.answer.Tie as tie
 
 abbrev Inv-loop : tie.InvT-loop
-Inv-loop text weights₀ marks₀ counts₀ out₀ at₀ done₀ days₀ weights marks counts out at done days =
+Inv-loop input weights₀ marks₀ counts₀ out₀ end at₀ done₀ days₀ weights marks counts out at done days =
     (done ≤ at) ×
     (length weights ≡ length weights₀) ×
     (length marks ≡ length marks₀) ×
@@ -17,19 +19,29 @@ Inv-loop text weights₀ marks₀ counts₀ out₀ at₀ done₀ days₀ weights
     (length out ≡ length out₀)
 
 abbrev μ-loop : tie.MeasureT-loop
-μ-loop text weights₀ marks₀ counts₀ out₀ at₀ done₀ days₀ weights marks counts out at done days = length text - at
+μ-loop input weights₀ marks₀ counts₀ out₀ end at₀ done₀ days₀ weights marks counts out at done days = end - at
+
+whole-lines-requires : tie.Need-whole-lines-requires Inv-loop μ-loop
+whole-lines-requires c κs = search needs
 
 loop-holds : tie.Need-loop-holds Inv-loop μ-loop
 loop-holds c = (zero≤, refl, refl, refl, refl)
+
+-- the whole lines are within the input
+within : (c : tie.After-whole-lines Inv-loop μ-loop) → c .whole-lines .result ≤ length (c .before .before .before .before .before .before .args .input .now)
+within c = omega (arith, c .whole-lines .ensures .answers, whole-within (c .before .before .before .before .before .before .args .input .now))
+
+slice-aggregate-run : tie.Need-slice-aggregate-run Inv-loop μ-loop
+slice-aggregate-run c = sym (length-take-le _ (c .before .before .before .before .before .before .before .before .before .args .input .now) (within (c .before .before .before)))
 
 run-requires : tie.Need-run-requires Inv-loop μ-loop
 run-requires c κs = search needs
 
 slice-reshare-prefix-write-all : tie.Need-slice-reshare-prefix-write-all Inv-loop μ-loop
-slice-reshare-prefix-write-all c = c .before .before .before .before .before .before .before .before .run .ensures .within
+slice-reshare-prefix-write-all c = run-within _ _ _ _ _ _ _ _ _ (c .before .before .before .before .before .before .before .before .run .ensures)
 
 slice-aggregate-write-all : tie.Need-slice-aggregate-write-all Inv-loop μ-loop
-slice-aggregate-write-all c = sym (length-take-le _ _ (c .before .before .before .before .before .before .before .before .before .run .ensures .within))
+slice-aggregate-write-all c = sym (length-take-le _ _ (run-within _ _ _ _ _ _ _ _ _ (c .before .before .before .before .before .before .before .before .before .run .ensures)))
 
 write-all-requires : tie.Need-write-all-requires Inv-loop μ-loop
 write-all-requires c κs = search needs
@@ -51,11 +63,13 @@ returns c = tt
 
 loop-less : tie.Need-loop-less Inv-loop μ-loop
 loop-less c =
-    let l = c .before .before .before .before .before .before .before .before .before .before .before .before .before .before .before .before in
-    omega (arith, c .before .before .before .before .before .before .before .before .before .before .before .run .ensures .goes-on (l .loop-test .taken) (omega arith) (omega arith))
+    let call = c .before .before .before .before .before .before .before .before .before .before .before .run in
+    let test = c .before .before .before .before .before .before .before .before .before .before .before .before .before .before .before .before .before in
+    let long = length-take-le (c .before .before .before .before .before .before .before .before .before .before .before .before .before .before .before .before .before .before .before .whole-lines .result) (c .before .before .before .before .before .before .before .before .before .before .before .before .before .before .before .before .before .before .before .before .before .before .before .before .before .args .input .now) (within (c .before .before .before .before .before .before .before .before .before .before .before .before .before .before .before .before .before .before .before)) in
+    omega (arith, run-goes-on _ _ _ _ _ _ _ _ _ (call .ensures) (omega (arith, test .loop-test .taken, long)) (omega arith) (omega (arith, test .before .loop .inv .0, test .loop-test .taken)))
 
 loop-again : tie.Need-loop-again Inv-loop μ-loop
-loop-again c = (omega (arith, c .before .before .before .before .before .before .before .before .before .before .before .run .ensures .passes), omega arith, omega arith, omega arith, omega arith)
+loop-again c = (omega (arith, run-passes _ _ _ _ _ _ _ _ _ (c .before .before .before .before .before .before .before .before .before .before .before .run .ensures)), omega arith, omega arith, omega arith, omega arith)
 
 same-length-5 : tie.Need-same-length-5 Inv-loop μ-loop
 same-length-5 c = omega arith
@@ -78,7 +92,9 @@ answer-spec =
     (tie.spec
     Inv-loop
     μ-loop
+    whole-lines-requires
     loop-holds
+    slice-aggregate-run
     run-requires
     slice-reshare-prefix-write-all
     slice-aggregate-write-all

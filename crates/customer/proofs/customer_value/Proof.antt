@@ -1,5 +1,5 @@
 -- `customer::customer_value` meets its contract: each return is the row of the table that its tests led to. Assumes nothing.
-use mathlib.Core.Path.{_≡_, sym, ap, _∙_}
+use mathlib.Core.Path.{_≡_, refl, sym, ap, _∙_}
 use mathlib.Core.Bool.{true, false}
 use mathlib.Core.List.{List}
 use Prim.Native.Nat.{ℕ, _*_, _≤_}
@@ -8,26 +8,27 @@ use borrow.Author.Tests.{le-leb, lt-leb, lt-ltb, le-ltb, not-true, not-false}
 use lib.Dec.{ltb}
 use lib.ListN.{length}
 use Rattle.rounding.specs.Nearest.{nearest}
+use Rattle.profile.specs.Limits.{spanMost}
 use Rattle.account.specs.Account.{badSpan}
 use Rattle.customer.specs.Customer.{customerValue, valueMost}
 use borrow.Author.Needs.{needs}
 use Rattle.customer.proofs.customer_value.Statement.{statement}
 use Rattle.customer.proofs.customer_value.Tie as tie
 
-spanned : (w : List ℕ) → (length w ≡ 0 → ⊥) → length w ≤ 1096 → badSpan (length w) ≡ false
-spanned w some-days most = simp (le-leb 1 (length w) (omega arith), le-leb (length w) 1096 most)
+spanned : (w : List ℕ) → (length w ≡ 0 → ⊥) → length w ≤ spanMost → badSpan (length w) ≡ false
+spanned w some-days most = simp (le-leb 1 (length w) (omega arith), le-leb (length w) spanMost most)
 
 returns : tie.Need-returns
 returns c =
     let short = lt-leb 1 (length (c .before .before .args .weights .now)) (omega (arith, c .if1 .taken)) in
-    record { answers = simp short; values = simp short }
+    record { answers = simp short; values = simp short; stays = refl }
 
 returns-2 : tie.Need-returns-2
 returns-2 c =
     let n = length (c .before .before .before .args .weights .now) in
     let some-days = le-leb 1 n (omega (arith, c .before .if1 .left)) in
-    let long = lt-leb n 1096 (c .if2 .taken) in
-    record { answers = simp (some-days, long); values = simp (some-days, long) }
+    let long = lt-leb n spanMost (c .if2 .taken) in
+    record { answers = simp (some-days, long); values = simp (some-days, long); stays = refl }
 
 good-weights-requires : tie.Need-good-weights-requires
 good-weights-requires c κs = search needs
@@ -36,16 +37,16 @@ returns-3 : tie.Need-returns-3
 returns-3 c =
     let w = c .before .before .before .before .before .args .weights .now in
     let span = spanned w (c .before .before .before .if1 .left) (c .before .before .if2 .left) in
-    let bad = sym (c .before .good-weights .ensures) ∙ not-true _ (c .if3 .taken) in
-    record { answers = simp (span, bad); values = simp (span, bad) }
+    let bad = sym (c .before .good-weights .ensures .says) ∙ not-true _ (c .if3 .taken) in
+    record { answers = simp (span, bad); values = simp (span, bad); stays = refl }
 
 returns-4 : tie.Need-returns-4
 returns-4 c =
     let a = c .before .before .before .before .before .before .args in
     let span = spanned (a .weights .now) (c .before .before .before .before .if1 .left) (c .before .before .before .if2 .left) in
-    let good = sym (c .before .before .good-weights .ensures) ∙ not-false _ (c .before .if3 .left) in
+    let good = sym (c .before .before .good-weights .ensures .says) ∙ not-false _ (c .before .if3 .left) in
     let much = lt-ltb 2_000_000_000 (a .energy) (c .if4 .taken) in
-    record { answers = simp (span, good, much); values = simp (span, good, much) }
+    record { answers = simp (span, good, much); values = simp (span, good, much); stays = refl }
 
 mul-nearest-of : tie.Need-mul-nearest-of
 mul-nearest-of c = search needs
@@ -61,24 +62,24 @@ returns-5 c =
     let e = c .before .before .before in
     let a = e .before .before .before .before .before .before .args in
     let span = spanned (a .weights .now) (e .before .before .before .before .if1 .left) (e .before .before .before .if2 .left) in
-    let good = sym (e .before .before .good-weights .ensures) ∙ not-false _ (e .before .if3 .left) in
+    let good = sym (e .before .before .good-weights .ensures .says) ∙ not-false _ (e .before .if3 .left) in
     let energy = le-ltb 2_000_000_000 (a .energy) (e .if4 .left) in
     let value : c .before .nearest-of .result ≡ customerValue (a .energy) (a .weights .now) =
     c .before .nearest-of .ensures ∙ ap (nearest (a .energy * 10_000_000)) (c .before .before .total .ensures) in
     let great = ap (ltb valueMost) (sym value) ∙ lt-ltb valueMost _ (c .if5 .taken) in
-    record { answers = simp (span, good, energy, great); values = simp (span, good, energy, great) }
+    record { answers = simp (span, good, energy, great); values = simp (span, good, energy, great); stays = refl }
 
 returns-6 : tie.Need-returns-6
 returns-6 c =
     let e = c .before .before .before in
     let a = e .before .before .before .before .before .before .args in
     let span = spanned (a .weights .now) (e .before .before .before .before .if1 .left) (e .before .before .before .if2 .left) in
-    let good = sym (e .before .before .good-weights .ensures) ∙ not-false _ (e .before .if3 .left) in
+    let good = sym (e .before .before .good-weights .ensures .says) ∙ not-false _ (e .before .if3 .left) in
     let energy = le-ltb 2_000_000_000 (a .energy) (e .if4 .left) in
     let value : c .before .nearest-of .result ≡ customerValue (a .energy) (a .weights .now) =
     c .before .nearest-of .ensures ∙ ap (nearest (a .energy * 10_000_000)) (c .before .before .total .ensures) in
     let small = ap (ltb valueMost) (sym value) ∙ le-ltb valueMost _ (c .if5 .left) in
-    record { answers = simp (span, good, energy, small); values = simp (span, good, energy, small) value }
+    record { answers = simp (span, good, energy, small); values = simp (span, good, energy, small) value; stays = refl }
 
 pub customer-value-spec : {M : Type 1} → statement M
 customer-value-spec =

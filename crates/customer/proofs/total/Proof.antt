@@ -9,7 +9,7 @@ use native.Mathlib.Nat.{add-zero}
 use native.Mathlib.Numerals.{add-one}
 use lib.ListN.{length, getD, drop, drop-of-length-le}
 use lib.Seq.{drop-cons}
-use Rattle.customer.specs.Customer.{sumOf}
+use Rattle.profile.specs.Table.{sumOf}
 use Rattle.customer.proofs.total.Statement.{statement}
 use Rattle.customer.proofs.total.Tie as tie
 

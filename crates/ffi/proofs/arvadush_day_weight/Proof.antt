@@ -1,36 +1,39 @@
 -- `ffi::arvadush_day_weight` meets its contract, which is that of `profile::day_weight` at its answer's numbers. Assumes nothing.
-use Prim.Native.Nat.{ℕ, _≤_}
-use mathlib.Core.Path.{refl, sym, ap, subst, _∙_}
-use lib.IntN.{pos}
-use borrow.Author.Needs.{needs}
+use Prim.Native.Nat.{ℕ}
+use mathlib.Core.Path.{_≡_, refl}
+use lib.IntN.{ℤ}
 use mir.Facts.{toZ-ofZ}
-use Rattle.profile.specs.Limits.{weightLeast, weightMost}
+use borrow.Author.Needs.{needs}
+use Rattle.ffi.specs.declared.Outcome.{Outcome}
+use Rattle.profile.specs.declared.WeightAnswer.{WeightAnswer}
+use Rattle.profile.specs.Answers as profiles
+use Rattle.profile.specs.Answers.{weightNumber, weightGiven}
+use Rattle.ffi.specs.Calls.{told, WeightMet}
 use Rattle.ffi.proofs.arvadush_day_weight.Statement.{statement}
 use Rattle.ffi.proofs.arvadush_day_weight.Tie as tie
+
+met-told : (k weekday : ℕ) (t : ℤ) (answer : WeightAnswer) (r : Outcome) → r ≡ told (weightNumber answer) 0 (weightGiven answer) →
+    profiles.WeightMet k weekday t answer → WeightMet k weekday t r
+met-told k weekday t answer r e met =
+    rw e
+    (record {
+      number = met .number;
+      place = refl;
+      weight = met .weight;
+      floored = met .floored;
+      least = met .least;
+      most = met .most;
+    })
 
 day-weight-requires : tie.Need-day-weight-requires
 day-weight-requires c κs = search needs
 
-weight-number-requires : tie.Need-weight-number-requires
-weight-number-requires c κs = search needs
-
-weight-value-requires : tie.Need-weight-value-requires
-weight-value-requires c κs = search needs
+weight-requires : tie.Need-weight-requires
+weight-requires c κs = search needs
 
 returns : tie.Need-returns
-returns c =
-    let start = c .before .before .before in
-    let met = simp (toZ-ofZ (start .fits .t)) at (c .before .before .day-weight .ensures) in
-    let given = c .weight-value .ensures in
-    record {
-      number = c .before .weight-number .ensures ∙ met .number;
-      place = refl;
-      weight = given ∙ met .weight;
-      floored = λ ok. met .floored ok ∙ ap pos (sym given);
-      least = λ ok. subst (λ (w : ℕ). weightLeast ≤ w) (sym given) (met .least ok);
-      most = λ ok. subst (λ (w : ℕ). w ≤ weightMost) (sym given) (met .most ok);
-    }
+returns c = met-told _ _ _ _ _ (c .weight .ensures) (simp (toZ-ofZ (c .before .before .fits .t)) at (c .before .day-weight .ensures))
 
 pub arvadush-day-weight-spec : {M : Type 1} → statement M
 arvadush-day-weight-spec =
-    tie.close (tie.spec day-weight-requires weight-number-requires weight-value-requires returns)
+    tie.close (tie.spec day-weight-requires weight-requires returns)

@@ -1,32 +1,42 @@
 -- `ffi::arvadush_weights` meets its contract, which is that of `weights::weights` at its answer's numbers. Assumes nothing.
-use mathlib.Core.Path.{refl, sym, _∙_}
+use Prim.Native.Nat.{ℕ}
+use mathlib.Core.Path.{_≡_, refl}
+use mathlib.Core.List.{List}
+use lib.IntN.{ℤ}
 use borrow.Author.Needs.{needs}
+use Rattle.ffi.specs.declared.Outcome.{Outcome}
+use Rattle.weights.specs.declared.WeightsAnswer.{WeightsAnswer}
+use Rattle.weights.specs.Weights as span
+use Rattle.ffi.specs.Calls.{told, WeightsMet}
 use Rattle.ffi.proofs.arvadush_weights.Statement.{statement}
 use Rattle.ffi.proofs.arvadush_weights.Tie as tie
+
+met-told : (profile weekday : ℕ) (means : List ℤ) (before : List ℕ) (answer : WeightsAnswer) (r : Outcome) (after : List ℕ) (kept : List ℤ) →
+    r ≡ told (span.number answer) (span.place answer) 0 → span.WeightsMet profile weekday means before answer after kept →
+    WeightsMet profile weekday means before r after kept
+met-told profile weekday means before answer r after kept e met =
+    rw e
+    (record {
+      number-is = met .number-is;
+      place-is = met .place-is;
+      value-is = refl;
+      after-is = met .after-is;
+      bounded = met .bounded;
+      means-stay = met .means-stay;
+    })
 
 weights-requires : tie.Need-weights-requires
 weights-requires c κs = search needs
 
-weights-number-requires : tie.Need-weights-number-requires
-weights-number-requires c κs = search needs
-
-weights-place-requires : tie.Need-weights-place-requires
-weights-place-requires c κs = search needs
+weights-requires-2 : tie.Need-weights-requires-2
+weights-requires-2 c κs = search needs
 
 same-length : tie.Need-same-length
 same-length c = search needs
 
 returns : tie.Need-returns
-returns c =
-    let met = c .before .before .before .before .weights .ensures in
-    record {
-      number-is = c .before .weights-number .ensures ∙ met .number-is;
-      place-is = c .weights-place .ensures ∙ met .place-is;
-      value-is = refl;
-      after-is = met .after-is;
-      bounded = λ done. met .bounded (sym (c .before .weights-number .ensures) ∙ done);
-    }
+returns c = met-told _ _ _ _ _ _ _ _ (c .weights2 .ensures) (c .before .before .before .weights .ensures)
 
 pub arvadush-weights-spec : {M : Type 1} → statement M
 arvadush-weights-spec =
-    tie.close (tie.spec weights-requires weights-number-requires weights-place-requires same-length returns)
+    tie.close (tie.spec weights-requires weights-requires-2 same-length returns)

@@ -23,8 +23,8 @@ lent c = account (c .args .weights .now) (c .args .marks .now) (c .args .counts 
 abbrev filled : tie.After-read-case → Account
 filled c = account (c .read-case .last .1 .0) (c .read-case .last .1 .1 .0) (c .read-case .last .1 .1 .1 .0)
 
-days-met : (c : tie.After-answer) → ReadMet (c .before .before .before .before .before .before .before .before .before .before .before .before .before .before .before .before .before .args .file .now) (lent (c .before .before .before .before .before .before .before .before .before .before .before .before .before .before .before .before .before)) (Days (c .answer .given .0 .0)) (filled (c .before .before .before .before .before .before .before .before))
-days-met c = subst (λ (a : CaseAnswer). ReadMet (c .before .before .before .before .before .before .before .before .before .before .before .before .before .before .before .before .before .args .file .now) (lent (c .before .before .before .before .before .before .before .before .before .before .before .before .before .before .before .before .before)) a (filled (c .before .before .before .before .before .before .before .before))) (c .answer .given .1) (c .before .before .before .before .before .before .before .before .read-case .ensures)
+days-met : (c : tie.After-answer) → ReadMet (c .before .before .before .before .before .before .before .before .before .before .before .before .before .before .before .before .before .args .file .now) (lent (c .before .before .before .before .before .before .before .before .before .before .before .before .before .before .before .before .before)) (Days (c .answer .given .0 .0)) (filled (c .before .before .before .before .before .before .before .before)) (c .before .before .before .before .before .before .before .before .before .before .before .before .before .before .before .before .before .args .file .now)
+days-met c = subst (λ (a : CaseAnswer). ReadMet (c .before .before .before .before .before .before .before .before .before .before .before .before .before .before .before .before .before .args .file .now) (lent (c .before .before .before .before .before .before .before .before .before .before .before .before .before .before .before .before .before)) a (filled (c .before .before .before .before .before .before .before .before)) (c .before .before .before .before .before .before .before .before .before .before .before .before .before .before .before .before .before .args .file .now)) (c .answer .given .1) (c .before .before .before .before .before .before .before .before .read-case .ensures)
 
 days-text-requires : tie.Need-days-text-requires
 days-text-requires c κs =
@@ -70,8 +70,8 @@ returns-2 c =
     let s = c .before .before .before .before .before .before .before .before .before .before .before .before .before .before .before .before .before .before .before .before .before .before .args .file .now in
     let a = lent (c .before .before .before .before .before .before .before .before .before .before .before .before .before .before .before .before .before .before .before .before .before .before) in
     let f = filled (c .before .before .before .before .before .before .before .before .before .before .before .before .before) in
-    let m : ReadMet s a (Refused (c .before .before .before .before .before .answer2 .given .0 .0) (c .before .before .before .before .before .answer2 .given .0 .1 .0)) f =
-    subst (λ (x : CaseAnswer). ReadMet s a x f) (c .before .before .before .before .before .answer2 .given .1) (c .before .before .before .before .before .before .before .before .before .before .before .before .before .read-case .ensures) in
+    let m : ReadMet s a (Refused (c .before .before .before .before .before .answer2 .given .0 .0) (c .before .before .before .before .before .answer2 .given .0 .1 .0)) f s =
+    subst (λ (x : CaseAnswer). ReadMet s a x f s) (c .before .before .before .before .before .answer2 .given .1) (c .before .before .before .before .before .before .before .before .before .before .before .before .before .read-case .ensures) in
     text-met _ _ _ _ _ _ _ (c .before .before .refusal-text .ensures) (refused-says _ _ _ _ _ m) (m .fills)
 
 pub case-text-spec : {M : Type 1} → statement M

@@ -5,7 +5,8 @@ use native.Mathlib.Omega.{arith}
 use lib.IntN.{negsuc}
 use mir.Syntax.{w16}
 use mir.Facts.{toZ-ofZ, toZ-pos}
-use Rattle.script.proofs.Digits.{less-one, below-zero}
+use Rattle.profile.proofs.Integer.{less-one}
+use Rattle.script.proofs.Digits.{below-zero}
 use borrow.Author.Needs.{needs}
 use Rattle.script.proofs.negative.Statement.{statement}
 use Rattle.script.proofs.negative.Tie as tie

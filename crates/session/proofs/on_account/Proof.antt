@@ -1,5 +1,7 @@
 -- `session::on_account` meets its contract: each call's own record. Assumes nothing.
 use mathlib.Core.Path.{_≡_, _∙_}
+use Rattle.account.specs.Account.{account}
+use Rattle.account.specs.Table.{readingNumber, withdrawNumber, cutNumber, uncutNumber}
 use borrow.Author.Needs.{needs}
 use Rattle.session.proofs.on_account.Statement.{statement}
 use Rattle.session.proofs.on_account.Tie as tie
@@ -48,8 +50,11 @@ same-length-2 c = search needs
 
 returns : tie.Need-returns
 returns c =
+    let a = c .before .before .before .before .before .before .before .before .before .before .before .before .before .before .args in
+    let call = c .before .before .before .before .before .before .before .before .before .call .given in
     let was = c .before .before .before .before .before .reading .ensures in
-    rw (c .before .before .before .before .before .before .before .before .before .call .given .1) (record { answers = c .number-of .ensures ∙ was .answers; leaves = was .leaves })
+    let number = readingNumber (account (a .weights .now) (a .marks .now) (a .counts .now)) (call .0 .0) (call .0 .1 .0) in
+    rw (call .1) (record { answers = _∙_ {c = number} (c .number-of .ensures) (was .answers); leaves = was .leaves })
 
 same-length-3 : tie.Need-same-length-3
 same-length-3 c = search needs
@@ -59,8 +64,11 @@ same-length-4 c = search needs
 
 returns-2 : tie.Need-returns-2
 returns-2 c =
+    let a = c .before .before .before .before .before .before .before .before .before .before .before .before .before .before .args in
+    let call = c .before .before .before .before .before .before .before .before .before .call2 .given in
     let was = c .before .before .before .before .before .withdraw .ensures in
-    rw (c .before .before .before .before .before .before .before .before .before .call2 .given .1) (record { answers = c .number-of2 .ensures ∙ was .answers; leaves = was .leaves })
+    let number = withdrawNumber (account (a .weights .now) (a .marks .now) (a .counts .now)) (call .0 .0) in
+    rw (call .1) (record { answers = _∙_ {c = number} (c .number-of2 .ensures) (was .answers); leaves = was .leaves })
 
 same-length-5 : tie.Need-same-length-5
 same-length-5 c = search needs
@@ -70,8 +78,11 @@ same-length-6 c = search needs
 
 returns-3 : tie.Need-returns-3
 returns-3 c =
+    let a = c .before .before .before .before .before .before .before .before .before .before .before .before .args in
+    let call = c .before .before .before .before .before .before .before .call3 .given in
     let was = c .before .before .before .cut .ensures in
-    rw (c .before .before .before .before .before .before .before .call3 .given .1) (record { answers = c .number-of3 .ensures ∙ was .answers; leaves = was .leaves })
+    let number = cutNumber (account (a .weights .now) (a .marks .now) (a .counts .now)) (call .0 .0) in
+    rw (call .1) (record { answers = _∙_ {c = number} (c .number-of3 .ensures) (was .answers); leaves = was .leaves })
 
 same-length-7 : tie.Need-same-length-7
 same-length-7 c = search needs
@@ -81,8 +92,11 @@ same-length-8 c = search needs
 
 returns-4 : tie.Need-returns-4
 returns-4 c =
+    let a = c .before .before .before .before .before .before .before .before .before .before .before .before .args in
+    let call = c .before .before .before .before .before .before .before .call4 .given in
     let was = c .before .before .before .uncut .ensures in
-    rw (c .before .before .before .before .before .before .before .call4 .given .1) (record { answers = c .number-of4 .ensures ∙ was .answers; leaves = was .leaves })
+    let number = uncutNumber (account (a .weights .now) (a .marks .now) (a .counts .now)) (call .0 .0) in
+    rw (call .1) (record { answers = _∙_ {c = number} (c .number-of4 .ensures) (was .answers); leaves = was .leaves })
 
 pub on-account-spec : {M : Type 1} → statement M
 on-account-spec =

@@ -1,12 +1,16 @@
--- `session::run` meets its contract. The loop's invariant: the answers of the lines passed are gathered, and the others are left. Assumes nothing.
-use Prim.Native.Nat.{_+_, _-_, _≤_}
+-- `session::run` meets its contract. The loop's invariant: the answers of the lines passed are gathered, and those left are run from here.
+-- Assumes nothing.
+use Prim.Native.Nat.{_+_, _-_, _≤_, _<_}
 use mathlib.Core.Path.{_≡_, refl}
+use mathlib.Core.Bool.{true}
 use native.Mathlib.Omega.{arith}
 use borrow.Author.Needs.{needs}
 use lib.ListN.{length}
 use Rattle.account.specs.Account.{account}
+use Rattle.script.specs.Numbers.{most64}
 use Rattle.session.specs.Lines.{session}
-use Rattle.session.proofs.Running.{Going, going-none, going-more, ran-met, line-within}
+use Rattle.session.specs.Transcript.{longest, oneMore}
+use Rattle.session.proofs.Running.{Going, going-none, going-more, ran-met, line-within, goes, stops}
 use Rattle.session.proofs.run.Statement.{statement}
 use Rattle.session.proofs.run.Tie as tie
 
@@ -24,46 +28,62 @@ abbrev μ-loop : tie.MeasureT-loop
 loop-holds : tie.Need-loop-holds Inv-loop μ-loop
 loop-holds c = (going-none _ _ _ _ _, refl, refl, refl, refl)
 
-sub-if1 : tie.Need-sub-if1 Inv-loop μ-loop
-sub-if1 c = omega arith
+sub-one-more : tie.Need-sub-one-more Inv-loop μ-loop
+sub-one-more c = omega (arith, c .loop .inv .0 .within, c .loop .inv .4)
+
+one-more-requires : tie.Need-one-more-requires Inv-loop μ-loop
+one-more-requires c κs = search needs
+
+-- one more line is left, and can be run
+went : (c : tie.Then1 Inv-loop μ-loop) →
+    (c .before .before .loop .at < length (c .before .before .before .before .before .before .before .before .args .text .now)) ×
+    (c .before .before .loop .done < most64) ×
+    (longest ≤ length (c .before .before .before .before .before .before .before .before .args .out .now) - c .before .before .loop .length) ×
+    (oneMore (c .before .before .loop .done) (length (c .before .before .before .before .before .before .before .before .args .out .now) - c .before .before .loop .length) ≡ true)
+went c =
+    let l = c .before .before .loop in
+    goes (c .before .one-more .result) (l .at) (length (c .before .before .before .before .before .before .before .before .args .text .now)) (l .done) (length (l .out)) (length (c .before .before .before .before .before .before .before .before .args .out .now)) (l .length)
+    (c .before .one-more .ensures) (l .inv .4) (c .if1 .taken)
 
 line-end-requires : tie.Need-line-end-requires Inv-loop μ-loop
 line-end-requires c κs = search needs
 
 add-done : tie.Need-add-done Inv-loop μ-loop
-add-done c = omega arith
-
-sub-gather : tie.Need-sub-gather Inv-loop μ-loop
-sub-gather c = omega arith
-
-part-gather-start : tie.Need-part-gather-start Inv-loop μ-loop
-part-gather-start c = omega arith
-
-part-gather-end : tie.Need-part-gather-end Inv-loop μ-loop
-part-gather-end c = line-within _ _ _ (c .before .before .before .loop-test .taken) (c .line-end .ensures) .1
+add-done c = omega (arith, went (c .before) .1)
 
 gather-requires : tie.Need-gather-requires Inv-loop μ-loop
-gather-requires c κs = omega arith
+gather-requires c κs =
+    let t = c .before .before .before .before .before in
+    let more = went t in
+    let within = line-within _ _ _ (more .0) (c .before .before .before .before .line-end .ensures .answers) in
+    (within .0, within .1, omega (arith, more .2, t .before .before .loop .inv .4))
 
 add-length : tie.Need-add-length Inv-loop μ-loop
 add-length c =
     let met = c .before .before .before .before .before .before .before .before .before .gather in
-    let filled : c .before .before .before .before .before .before .before .before .before .before .before .before .before .before .before .before .before .before .before .loop .length + met .result .length ≤ length (met .last .1 .1 .1 .1 .1 .1 .0) = met .ensures .within in
-    let same : length (met .last .1 .1 .1 .1 .1 .1 .0) ≡ length (c .before .before .before .before .before .before .before .before .before .before .before .before .before .before .before .before .before .before .before .before .before .before .before .before .before .args .out .now) = omega arith in
-    omega (arith, filled, same, c .before .before .before .before .before .before .before .before .before .before .before .before .before .before .before .before .before .before .before .before .before .before .before .before .before .good .1 .1 .1 .1 .1 .1 .1 .0)
+    let start = c .before .before .before .before .before .before .before .before .before .before .before .before .before .before .before .before .before .before .before .before .before .before .before in
+    let filled : c .before .before .before .before .before .before .before .before .before .before .before .before .before .before .before .before .before .loop .length + met .result .length ≤ length (met .last .1 .1 .1 .1 .1 .1 .1 .1 .0) = met .ensures .within in
+    let same : length (met .last .1 .1 .1 .1 .1 .1 .1 .1 .0) ≡ length (start .args .out .now) = omega (arith, met .kept .1 .1 .1 .1 .1 .1 .1 .1 .0, c .before .before .before .before .before .before .before .before .before .before .before .before .before .before .before .before .before .loop .inv .4) in
+    omega (arith, filled, same, start .good .1 .1 .1 .1 .1 .1 .1 .0)
 
 add-at : tie.Need-add-at Inv-loop μ-loop
-add-at c = omega (arith, line-within _ _ _ (c .before .before .before .before .before .before .before .before .before .before .before .before .before .before .before .before .before .before .loop-test .taken) (c .before .before .before .before .before .before .before .before .before .before .before .before .before .before .before .line-end .ensures))
+add-at c = omega (arith, line-within _ _ _ (went (c .before .before .before .before .before .before .before .before .before .before .before .before .before .before .before) .0) (c .before .before .before .before .before .before .before .before .before .before .before .before .before .before .line-end .ensures .answers))
 
 loop-less : tie.Need-loop-less Inv-loop μ-loop
-loop-less c = omega arith
+loop-less c = omega (arith, went (c .before .before .before .before .before .before .before .before .before .before .before .before .before .before .before) .0, line-within _ _ _ (went (c .before .before .before .before .before .before .before .before .before .before .before .before .before .before .before) .0) (c .before .before .before .before .before .before .before .before .before .before .before .before .before .before .line-end .ensures .answers))
 
 loop-again : tie.Need-loop-again Inv-loop μ-loop
 loop-again c =
-    let l = c .before .before .before .before .before .before .before .before .before .before .before .before .before .before .before .before .before .before in
+    let t = c .before .before .before .before .before .before .before .before .before .before .before .before .before .before .before in
+    let a = t .before .before .before .before .before .before .before .before .args in
+    let l = t .before .before .loop in
+    let end = c .before .before .before .before .before .before .before .before .before .before .before .before .before .before .line-end in
     let met = c .before .before .before .before .before .before .before .before .before .gather in
-    let end = c .before .before .before .before .before .before .before .before .before .before .before .before .before .before .before .line-end in (
-      going-more _ _ _ _ _ _ _ _ _ _ _ _ _ _ (l .before .loop .inv .0) (l .loop-test .taken) (end .ensures) (met .ensures),
+    let more = went t in (
+      going-more (a .text .now) (a .at) (a .done) (session (a .days) (account (a .weights .now) (a .marks .now) (a .counts .now))) (a .out .now)
+          (l .at) (end .result) (l .done) (session (l .days) (account (l .weights) (l .marks) (l .counts))) (l .out) (l .length)
+          (met .result) (account (met .last .1 .1 .1 .1 .1 .0) (met .last .1 .1 .1 .1 .1 .1 .0) (met .last .1 .1 .1 .1 .1 .1 .1 .0)) (met .last .1 .1 .1 .1 .1 .1 .1 .1 .0)
+          (l .inv .0) (more .0) (more .3) (end .ensures .answers) (met .ensures),
       omega arith,
       omega arith,
       omega arith,
@@ -83,37 +103,11 @@ same-length-4 : tie.Need-same-length-4 Inv-loop μ-loop
 same-length-4 c = omega arith
 
 returns : tie.Need-returns Inv-loop μ-loop
-returns c = ran-met _ _ _ _ _ _ _ _ (c .before .loop .inv .0) (λ here still none more holds few. omega arith)
-
-same-length-5 : tie.Need-same-length-5 Inv-loop μ-loop
-same-length-5 c = omega arith
-
-same-length-6 : tie.Need-same-length-6 Inv-loop μ-loop
-same-length-6 c = omega arith
-
-same-length-7 : tie.Need-same-length-7 Inv-loop μ-loop
-same-length-7 c = omega arith
-
-same-length-8 : tie.Need-same-length-8 Inv-loop μ-loop
-same-length-8 c = omega arith
-
-returns-2 : tie.Need-returns-2 Inv-loop μ-loop
-returns-2 c = ran-met _ _ _ _ _ _ _ _ (c .before .before .loop .inv .0) (λ here still none more holds few. omega arith)
-
-same-length-9 : tie.Need-same-length-9 Inv-loop μ-loop
-same-length-9 c = omega arith
-
-same-length-10 : tie.Need-same-length-10 Inv-loop μ-loop
-same-length-10 c = omega arith
-
-same-length-11 : tie.Need-same-length-11 Inv-loop μ-loop
-same-length-11 c = omega arith
-
-same-length-12 : tie.Need-same-length-12 Inv-loop μ-loop
-same-length-12 c = omega arith
-
-returns-3 : tie.Need-returns-3 Inv-loop μ-loop
-returns-3 c = ran-met _ _ _ _ _ _ _ _ (c .before .before .before .loop .inv .0) (λ here still none more holds few. omega arith)
+returns c =
+    let l = c .before .before .loop in
+    let start = c .before .before .before .before .before .before .before .before in
+    ran-met _ _ _ _ _ _ _ _ (l .inv .0)
+    (stops (c .before .one-more .result) (l .at) (length (start .args .text .now)) (l .done) (length (l .out)) (length (start .args .out .now)) (l .length) (c .before .one-more .ensures) (l .inv .4) (c .if1 .left))
 
 pub run-spec : {M : Type 1} → statement M
 run-spec =
@@ -122,12 +116,10 @@ run-spec =
     Inv-loop
     μ-loop
     loop-holds
-    sub-if1
+    sub-one-more
+    one-more-requires
     line-end-requires
     add-done
-    sub-gather
-    part-gather-start
-    part-gather-end
     gather-requires
     add-length
     add-at
@@ -137,14 +129,4 @@ run-spec =
     same-length-2
     same-length-3
     same-length-4
-    returns
-    same-length-5
-    same-length-6
-    same-length-7
-    same-length-8
-    returns-2
-    same-length-9
-    same-length-10
-    same-length-11
-    same-length-12
-    returns-3)
+    returns)

@@ -1,7 +1,8 @@
 -- `session::step` meets its contract: each command by what its call ensures. Assumes nothing.
 use mathlib.Core.Path.{_≡_, refl, sym, ap, _∙_}
 use Rattle.account.specs.Account.{account}
-use Rattle.session.specs.Calls.{weightsOffer, daysOffer}
+use Rattle.session.specs.Buffers.{held, laid}
+use Rattle.session.specs.Calls.{weightsOffer, daysOffer, after}
 use Rattle.session.specs.Lines.{session}
 use Rattle.session.proofs.Stepping.{step-met, opened-says, opened-session}
 use borrow.Author.Needs.{needs}
@@ -54,13 +55,13 @@ statement-requires : tie.Need-statement-requires
 statement-requires c κs = search needs
 
 returns : tie.Need-returns
-returns c = step-met _ (sym (c .before .before .parse .ensures) ∙ c .enum-told .given .1) (record { ends = refl; stored = refl }) refl
+returns c = step-met _ (sym (c .before .before .parse .ensures .answers) ∙ c .enum-told .given .1) (record { ends = refl; stored = refl }) refl
 
 same-length : tie.Need-same-length
 same-length c = search needs
 
 returns-2 : tie.Need-returns-2
-returns-2 c = step-met _ (sym (c .before .before .before .before .before .before .parse .ensures) ∙ c .before .before .before .before .enum-told2 .given .1) (c .before .before .unknown-text .ensures) refl
+returns-2 c = step-met _ (sym (c .before .before .before .before .before .before .parse .ensures .answers) ∙ c .before .before .before .before .enum-told2 .given .1) (c .before .before .unknown-text .ensures) refl
 
 same-length-2 : tie.Need-same-length-2
 same-length-2 c = search needs
@@ -79,11 +80,12 @@ returns-3 c =
     let a = c .before .before .before .before .before .before .before .before .before .before .before .before .before .before .before .before .before .before .before .before .before .before .args in
     let s = session (a .days) (account (a .weights .now) (a .marks .now) (a .counts .now)) in
     let given = c .before .before .before .before .before .before .before .before .before .before .open-weights in
+    let then = account (given .last .1 .0) (given .last .1 .1 .0) (given .last .1 .1 .1 .0) in
     let o = weightsOffer (a .line .now) in
     let said = c .before .before .open-answer .ensures in
-    step-met _ (sym (c .before .before .before .before .before .before .before .before .before .before .before .before .before .before .before .before .parse .ensures) ∙ c .before .before .before .before .before .before .before .before .before .before .before .before .before .before .enum-told3 .given .1)
-    (rw (opened-says o s (given .result) _ (given .ensures)) at (said .0))
-    (opened-session o s (given .result) _ (given .ensures) _ (said .1))
+    step-met {then = then} _ (sym (c .before .before .before .before .before .before .before .before .before .before .before .before .before .before .before .before .parse .ensures .answers) ∙ c .before .before .before .before .before .before .before .before .before .before .before .before .before .before .enum-told3 .given .1)
+    (rw (opened-says o s (given .result) then (given .ensures)) at (said .0))
+    (opened-session o s (given .result) then (given .ensures) _ (said .1))
 
 same-length-6 : tie.Need-same-length-6
 same-length-6 c = search needs
@@ -102,11 +104,12 @@ returns-4 c =
     let a = c .before .before .before .before .before .before .before .before .before .before .before .before .before .before .before .before .before .before .before .before .before .before .before .args in
     let s = session (a .days) (account (a .weights .now) (a .marks .now) (a .counts .now)) in
     let given = c .before .before .before .before .before .before .before .before .before .before .open-days in
+    let then = account (given .last .1 .1 .1 .0) (given .last .1 .1 .1 .1 .0) (given .last .1 .1 .1 .1 .1 .0) in
     let o = daysOffer (c .before .before .before .before .before .before .before .before .before .before .before .before .before .before .before .command .given .0 .0) (c .before .before .before .before .before .before .before .before .before .before .before .before .before .before .before .command .given .0 .1 .0) (a .line .now) in
     let said = c .before .before .open-answer2 .ensures in
-    step-met _ (sym (c .before .before .before .before .before .before .before .before .before .before .before .before .before .before .before .before .before .parse .ensures) ∙ c .before .before .before .before .before .before .before .before .before .before .before .before .before .before .before .command .given .1)
-    (rw (opened-says o s (given .result) _ (given .ensures)) at (said .0))
-    (opened-session o s (given .result) _ (given .ensures) _ (said .1))
+    step-met {then = then} _ (sym (c .before .before .before .before .before .before .before .before .before .before .before .before .before .before .before .before .before .parse .ensures .answers) ∙ c .before .before .before .before .before .before .before .before .before .before .before .before .before .before .before .command .given .1)
+    (rw (opened-says o s (given .result) then (given .ensures)) at (said .0))
+    (opened-session o s (given .result) then (given .ensures) _ (said .1))
 
 same-length-10 : tie.Need-same-length-10
 same-length-10 c = search needs
@@ -124,10 +127,11 @@ returns-5 : tie.Need-returns-5
 returns-5 c =
     let a = c .before .before .before .before .before .before .before .before .before .before .before .before .before .before .before .before .before .before .before .before .before .args in
     let s = session (a .days) (account (a .weights .now) (a .marks .now) (a .counts .now)) in
-    let given = c .before .before .before .before .before .before .before .before .change .ensures in
-    step-met _ (sym (c .before .before .before .before .before .before .before .before .before .before .before .before .before .before .before .parse .ensures) ∙ c .before .before .before .before .before .before .before .before .before .before .before .before .before .command2 .given .1)
-    (rw (given .answers) at (c .before .before .answer-text .ensures))
-    (ap (session (a .days)) (given .leaves))
+    let given = c .before .before .before .before .before .before .before .before .change in
+    let then = account (a .weights .now) (given .last .1 .1 .1 .0) (given .last .1 .1 .1 .1 .0) in
+    step-met {then = then} _ (sym (c .before .before .before .before .before .before .before .before .before .before .before .before .before .before .before .parse .ensures .answers) ∙ c .before .before .before .before .before .before .before .before .before .before .before .before .before .command2 .given .1)
+    (rw (given .ensures .answers) at (c .before .before .answer-text .ensures))
+    (ap (session (a .days)) {x = then} {y = laid (after (held (a .days) (s .buffers)) (c .before .before .before .before .before .before .before .before .before .before .before .before .before .command2 .given .0 .0)) (s .buffers)} (given .ensures .leaves))
 
 same-length-14 : tie.Need-same-length-14
 same-length-14 c = search needs
@@ -142,7 +146,7 @@ same-length-17 : tie.Need-same-length-17
 same-length-17 c = search needs
 
 returns-6 : tie.Need-returns-6
-returns-6 c = step-met _ (sym (c .before .before .before .before .before .before .before .before .before .parse .ensures) ∙ c .before .before .before .before .before .before .before .enum-told4 .given .1) (c .before .before .statement .ensures) refl
+returns-6 c = step-met _ (sym (c .before .before .before .before .before .before .before .before .before .parse .ensures .answers) ∙ c .before .before .before .before .before .before .before .enum-told4 .given .1) (c .before .before .statement .ensures) refl
 
 pub step-spec : {M : Type 1} → statement M
 step-spec =

@@ -28,7 +28,7 @@ slice-aggregate-result c = search needs
 returns : tie.Need-returns
 returns c =
     let e = lt-leb 1 _ (c .before .if1 .taken) in
-    record { start-is = simp e; means-are = simp e }
+    record { start-is = simp e; means-are = simp e; measured-stays = refl; forecast-stays = refl }
 
 slice-aggregate-result-2 : tie.Need-slice-aggregate-result-2
 slice-aggregate-result-2 c = search needs
@@ -37,7 +37,7 @@ returns-2 : tie.Need-returns-2
 returns-2 c =
     let e = le-leb 1 _ (c .before .before .if1 .left) in
     let f = lt-leb _ spanMost (c .before .if2 .taken) in
-    record { start-is = simp (e, f); means-are = simp (e, f) }
+    record { start-is = simp (e, f); means-are = simp (e, f); measured-stays = refl; forecast-stays = refl }
 
 add-serves : tie.Need-add-serves
 add-serves c = search needs
@@ -58,7 +58,7 @@ returns-3 c =
     let e = le-leb 1 _ (c .before .before .before .before .if1 .left) in
     let f = le-leb _ spanMost (c .before .before .before .if2 .left) in
     let m = sym (c .before .before .serves .ensures) ∙ c .before .if3 .taken in
-    record { start-is = simp (e, f, m); means-are = simp (e, f, m) }
+    record { start-is = simp (e, f, m); means-are = simp (e, f, m); measured-stays = refl; forecast-stays = refl }
 
 add-serves-2 : tie.Need-add-serves-2
 add-serves-2 c = search needs
@@ -80,7 +80,7 @@ returns-4 c =
     let f = le-leb _ spanMost (c .before .before .before .before .before .if2 .left) in
     let m = sym (c .before .before .before .before .serves .ensures) ∙ c .before .before .before .if3 .left in
     let p = sym (c .before .before .serves2 .ensures) ∙ c .before .if4 .taken in
-    record { start-is = simp (e, f, m, p); means-are = simp (e, f, m, p) }
+    record { start-is = simp (e, f, m, p); means-are = simp (e, f, m, p); measured-stays = refl; forecast-stays = refl }
 
 slice-aggregate-result-5 : tie.Need-slice-aggregate-result-5
 slice-aggregate-result-5 c = search needs
@@ -91,7 +91,7 @@ returns-5 c =
     let f = le-leb _ spanMost (c .before .before .before .before .before .if2 .left) in
     let m = sym (c .before .before .before .before .serves .ensures) ∙ c .before .before .before .if3 .left in
     let p = sym (c .before .before .serves2 .ensures) ∙ c .before .if4 .left in
-    record { start-is = simp (e, f, m, p); means-are = simp (e, f, m, p) }
+    record { start-is = simp (e, f, m, p); means-are = simp (e, f, m, p); measured-stays = refl; forecast-stays = refl }
 
 pub choose-spec : {M : Type 1} → statement M
 choose-spec =

@@ -4,6 +4,6 @@ use std::io::{Read, Write};
 
 fn main() {
     let mut script = Vec::new();
-    std::io::stdin().take(65_536).read_to_end(&mut script).unwrap();
+    std::io::stdin().take(65_537).read_to_end(&mut script).unwrap();
     std::io::stdout().write_all(model::console::console(&script).as_bytes()).unwrap();
 }

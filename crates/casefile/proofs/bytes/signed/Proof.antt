@@ -8,7 +8,8 @@ use lib.IntN.{negsuc}
 use mir.Syntax.{w16}
 use mir.Facts.{toZ-ofZ, toZ-pos}
 use Rattle.casefile.specs.Bytes.{signed}
-use Rattle.casefile.proofs.Numbers.{less-one, upper}
+use Rattle.profile.proofs.Integer.{less-one}
+use Rattle.casefile.proofs.Numbers.{upper}
 use Rattle.casefile.proofs.bytes.signed.Statement.{statement}
 use Rattle.casefile.proofs.bytes.signed.Tie as tie
 

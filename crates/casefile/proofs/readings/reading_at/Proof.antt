@@ -1,10 +1,11 @@
 -- `casefile::readings::reading_at` meets its contract: each return rewrites the definition with the tests that led there. Assumes nothing.
-use Prim.Native.Nat.{_+_, _-_}
+use Prim.Native.Nat.{_+_}
+use mathlib.Core.Path.{_∙_}
 use native.Mathlib.Omega.{arith}
 use borrow.Author.Tests.{lt-ltb, le-ltb}
 use lib.Dec.{lit<}
 use lib.ListN.{length}
-use Rattle.casefile.specs.Bytes.{number16, number64}
+use Rattle.casefile.specs.Bytes.{number16}
 use Rattle.casefile.proofs.Items.{item-stops}
 use borrow.Author.Needs.{needs}
 use Rattle.casefile.proofs.readings.reading_at.Statement.{statement}
@@ -43,47 +44,18 @@ returns-3 c =
     let a = c .before .before .before .before .before .before .args in
     item-stops (lit< tt) (c .bad3 .ensures) (simp (le-ltb (length s) (a .at + 10) (omega arith), le-ltb (number16 s (a .at)) (a .low) (omega arith), lt-ltb (a .days) (number16 s (a .at)) (omega arith)))
 
-add-number64 : tie.Need-add-number64
-add-number64 c = search needs
-
-number64-requires : tie.Need-number64-requires
-number64-requires c κs = search needs
-
-add-bad : tie.Need-add-bad
-add-bad c = search needs
-
-bad-requires-4 : tie.Need-bad-requires-4
-bad-requires-4 c κs = search needs
+counted-requires : tie.Need-counted-requires
+counted-requires c κs = search needs
 
 returns-4 : tie.Need-returns-4
 returns-4 c =
-    let s = c .before .before .before .before .before .before .before .before .args .file .now in
-    let a = c .before .before .before .before .before .before .before .before .args in
-    item-stops (lit< tt) (c .bad4 .ensures) (simp (le-ltb (length s) (a .at + 10) (omega arith), le-ltb (number16 s (a .at)) (a .low) (omega arith), le-ltb (a .days) (number16 s (a .at)) (omega arith), lt-ltb (number64 s (a .at + 2)) (a .last) (omega arith)))
-
-sub-if5 : tie.Need-sub-if5
-sub-if5 c = search needs
-
-add-bad-2 : tie.Need-add-bad-2
-add-bad-2 c = search needs
-
-bad-requires-5 : tie.Need-bad-requires-5
-bad-requires-5 c κs = search needs
-
-returns-5 : tie.Need-returns-5
-returns-5 c =
-    let s = c .before .before .before .before .before .before .before .before .before .args .file .now in
-    let a = c .before .before .before .before .before .before .before .before .before .args in
-    item-stops (lit< tt) (c .bad5 .ensures) (simp (le-ltb (length s) (a .at + 10) (omega arith), le-ltb (number16 s (a .at)) (a .low) (omega arith), le-ltb (a .days) (number16 s (a .at)) (omega arith), le-ltb (number64 s (a .at + 2)) (a .last) (omega arith), lt-ltb 2000000000 (number64 s (a .at + 2) - a .first) (omega arith)))
-
-returns-6 : tie.Need-returns-6
-returns-6 c =
-    let s = c .before .before .before .before .before .before .before .before .args .file .now in
-    let a = c .before .before .before .before .before .before .before .before .args in
+    let a = c .before .before .before .before .before .before .args in
+    let s = a .file .now in
+    let met = c .counted .ensures in
     record {
-      tells = simp (le-ltb (length s) (a .at + 10) (omega arith), le-ltb (number16 s (a .at)) (a .low) (omega arith), le-ltb (a .days) (number16 s (a .at)) (omega arith), le-ltb (number64 s (a .at + 2)) (a .last) (omega arith), le-ltb 2000000000 (number64 s (a .at + 2) - a .first) (omega arith));
-      boundary-is = λ z. c .before .before .before .before .before .number16 .ensures .0;
-      count-is = λ z. c .before .before .number64 .ensures;
+      tells = simp (le-ltb (length s) (a .at + 10) (omega arith), le-ltb (number16 s (a .at)) (a .low) (omega arith), le-ltb (a .days) (number16 s (a .at)) (omega arith)) (met .tells);
+      boundary-is = λ z. met .boundary-is z ∙ c .before .before .before .number16 .ensures .0;
+      count-is = met .count-is;
     }
 
 pub reading-at-spec : {M : Type 1} → statement M
@@ -98,13 +70,5 @@ reading-at-spec =
     returns-2
     bad-requires-3
     returns-3
-    add-number64
-    number64-requires
-    add-bad
-    bad-requires-4
-    returns-4
-    sub-if5
-    add-bad-2
-    bad-requires-5
-    returns-5
-    returns-6)
+    counted-requires
+    returns-4)

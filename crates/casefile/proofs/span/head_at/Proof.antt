@@ -6,8 +6,7 @@ use lib.Dec.{lit<}
 use Prim.Native.Nat.{ℕ, _+_, _-_}
 use lib.ListN.{length, getD}
 use Rattle.account.specs.Account.{badSpan}
-use Rattle.casefile.specs.Faults.{fault}
-use Rattle.casefile.specs.Sections.{headFault}
+use Rattle.casefile.specs.Faults.{fault, headFault}
 use Rattle.casefile.proofs.Faults.{stops, goes}
 use borrow.Author.Needs.{needs}
 use Rattle.casefile.proofs.span.head_at.Statement.{statement}

@@ -2,7 +2,8 @@
 -- Assumes nothing.
 use native.Mathlib.Omega.{arith}
 use Rattle.casefile.specs.Case.{daysOf}
-use Rattle.casefile.specs.Sections.{Reached, headFault}
+use Rattle.casefile.specs.Sections.{Reached}
+use Rattle.casefile.specs.Faults.{headFault}
 use Rattle.casefile.proofs.Weighing.{head-fault, known, asked, means-fault, weighable, spans}
 use borrow.Author.Needs.{needs}
 use Rattle.casefile.proofs.span.span_at.Statement.{statement}

@@ -7,6 +7,7 @@ use native.Mathlib.Omega.{arith}
 use borrow.Author.Needs.{needs}
 use mir.Syntax.{w64}
 use mir.Facts.{toZ-pos}
+use Rattle.power.specs.Power.{quotient}
 use Rattle.profile.proofs.Bounds.{curve-small}
 use Rattle.profile.proofs.curve.curve_up.Statement.{statement}
 use Rattle.profile.proofs.curve.curve_up.Tie as tie
@@ -24,9 +25,11 @@ quotient-up-requires : tie.Need-quotient-up-requires
 quotient-up-requires c κs = omega (arith, small c)
 
 cast-result : tie.Need-cast-result
+unfolding quotient
 cast-result c = record { sfits = omega (arith, small (c .before), c .quotient-up .ensures) }
 
 returns : tie.Need-returns
+unfolding quotient
 returns c =
     toZ-pos w64 (omega (arith, small (c .before), c .quotient-up .ensures)) ∙ ap pos (c .quotient-up .ensures)
 

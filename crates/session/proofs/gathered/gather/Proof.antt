@@ -1,6 +1,8 @@
 -- `session::gathered::gather` meets its contract. Assumes nothing.
 use native.Mathlib.Omega.{arith}
 use borrow.Author.Needs.{needs}
+use Rattle.account.specs.Account.{account}
+use Rattle.session.specs.Lines.{session}
 use Rattle.session.proofs.Running.{gathered-met}
 use Rattle.session.proofs.gathered.gather.Statement.{statement}
 use Rattle.session.proofs.gathered.gather.Tie as tie
@@ -13,6 +15,15 @@ part-step-start c = search needs
 
 part-step-end : tie.Need-part-step-end
 part-step-end c = search needs
+
+sub-step-2 : tie.Need-sub-step-2
+sub-step-2 c = search needs
+
+part-step-start-2 : tie.Need-part-step-start-2
+part-step-start-2 c = search needs
+
+part-step-end-2 : tie.Need-part-step-end-2
+part-step-end-2 c = search needs
 
 step-requires : tie.Need-step-requires
 step-requires c κs = search needs
@@ -31,7 +42,11 @@ same-length-4 c = search needs
 
 returns : tie.Need-returns
 returns c =
-    gathered-met _ _ _ (c .before .before .before .before .before .before .before .before .before .before .before .before .before .before .before .before .before .before .args .out .now) (c .before .before .before .before .before .before .before .before .before .before .before .before .before .before .before .before .before .before .args .filled) _ _ _ (omega arith) (c .before .before .before .before .before .before .before .before .step .ensures)
+    let start = c .before .before .before .before .before .before .before .before .before .before .before .before .before .before .before .before .before .before .before in
+    let a = start .args in
+    let step = c .before .before .before .before .before .before .before .before .step in
+    gathered-met _ (a .number) (session (a .days) (account (a .weights .now) (a .marks .now) (a .counts .now))) (a .out .now) (a .filled)
+    (step .result) (account (step .last .1 .1 .1 .0) (step .last .1 .1 .1 .1 .0) (step .last .1 .1 .1 .1 .1 .0)) (step .last .1 .1 .1 .1 .1 .1 .0) (start .pre .2) (step .ensures)
 
 pub gather-spec : {M : Type 1} → statement M
 gather-spec =
@@ -40,6 +55,9 @@ gather-spec =
     sub-step
     part-step-start
     part-step-end
+    sub-step-2
+    part-step-start-2
+    part-step-end-2
     step-requires
     same-length
     same-length-2

@@ -1,0 +1,29 @@
+-- `ffi::returned::case` meets its contract: each arm is told its variant. Assumes nothing.
+use mathlib.Core.Path.{sym, ap}
+use borrow.Author.Needs.{needs}
+use Rattle.casefile.specs.declared.CaseAnswer.{CaseAnswer}
+use Rattle.casefile.specs.Reader as reader
+use Rattle.ffi.specs.declared.Outcome.{Outcome}
+use Rattle.ffi.specs.Calls.{told}
+use Rattle.ffi.proofs.returned.case.Statement.{statement}
+use Rattle.ffi.proofs.returned.case.Tie as tie
+
+-- what the answer tells
+abbrev tells : CaseAnswer → Outcome
+tells answer = told (reader.number answer) (reader.place answer) (reader.days answer)
+
+enum-known-answer : tie.Need-enum-known-answer
+enum-known-answer c = search needs
+
+enum-known-answer-2 : tie.Need-enum-known-answer-2
+enum-known-answer-2 c = search needs
+
+returns : tie.Need-returns
+returns c = sym (ap tells (c .before .answer .given .1))
+
+returns-2 : tie.Need-returns-2
+returns-2 c = sym (ap tells (c .before .answer2 .given .1))
+
+pub case-spec : {M : Type 1} → statement M
+case-spec =
+    tie.close (tie.spec enum-known-answer enum-known-answer-2 returns returns-2)

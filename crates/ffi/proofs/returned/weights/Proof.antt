@@ -1,0 +1,47 @@
+-- `ffi::returned::weights` meets its contract: each arm is told its variant. Assumes nothing.
+use mathlib.Core.Path.{sym, ap}
+use borrow.Author.Needs.{needs}
+use Rattle.weights.specs.declared.WeightsAnswer.{WeightsAnswer}
+use Rattle.weights.specs.Weights as span
+use Rattle.ffi.specs.declared.Outcome.{Outcome}
+use Rattle.ffi.specs.Calls.{told}
+use Rattle.ffi.proofs.returned.weights.Statement.{statement}
+use Rattle.ffi.proofs.returned.weights.Tie as tie
+
+-- what the answer tells
+abbrev tells : WeightsAnswer → Outcome
+tells answer = told (span.number answer) (span.place answer) 0
+
+enum-told : tie.Need-enum-told
+enum-told c = search needs
+
+enum-told-2 : tie.Need-enum-told-2
+enum-told-2 c = search needs
+
+enum-told-3 : tie.Need-enum-told-3
+enum-told-3 c = search needs
+
+enum-told-4 : tie.Need-enum-told-4
+enum-told-4 c = search needs
+
+enum-known-answer : tie.Need-enum-known-answer
+enum-known-answer c = search needs
+
+returns : tie.Need-returns
+returns c = sym (ap tells (c .enum-told .given .1))
+
+returns-2 : tie.Need-returns-2
+returns-2 c = sym (ap tells (c .enum-told2 .given .1))
+
+returns-3 : tie.Need-returns-3
+returns-3 c = sym (ap tells (c .enum-told3 .given .1))
+
+returns-4 : tie.Need-returns-4
+returns-4 c = sym (ap tells (c .enum-told4 .given .1))
+
+returns-5 : tie.Need-returns-5
+returns-5 c = sym (ap tells (c .before .answer .given .1))
+
+pub weights-spec : {M : Type 1} → statement M
+weights-spec =
+    tie.close (tie.spec enum-told enum-told-2 enum-told-3 enum-told-4 enum-known-answer returns returns-2 returns-3 returns-4 returns-5)

@@ -1,0 +1,53 @@
+-- `layout::account_text` meets its contract. Assumes nothing.
+use mathlib.Core.Path.{refl}
+use native.Mathlib.Omega.{arith}
+use Rattle.account.specs.Account.{account}
+use Rattle.layout.proofs.Texts.{refusal-says, too-long}
+use borrow.Author.Needs.{needs}
+use Rattle.layout.proofs.account_text.Statement.{statement}
+use Rattle.layout.proofs.account_text.Tie as tie
+
+refusal-text-requires : tie.Need-refusal-text-requires
+refusal-text-requires c κs = search needs
+
+same-length : tie.Need-same-length
+same-length c = search needs
+
+returns : tie.Need-returns
+returns c =
+    let a = c .before .before .before .before .before .before .before .before .before .args in
+    let b = account (a .weights .now) (a .marks .now) (a .counts .now) in
+    let says = refusal-says b 3 (too-long b (c .before .before .before .before .if1 .taken)) (λ e. omega arith) in
+    rw says (record { laid = c .before .before .refusal-text .ensures; stays = refl })
+
+slice-aggregate-by-way-of : tie.Need-slice-aggregate-by-way-of
+slice-aggregate-by-way-of c = search needs
+
+slice-aggregate-by-way-of-2 : tie.Need-slice-aggregate-by-way-of-2
+slice-aggregate-by-way-of-2 c = search needs
+
+slice-aggregate-by-way-of-3 : tie.Need-slice-aggregate-by-way-of-3
+slice-aggregate-by-way-of-3 c = search needs
+
+by-way-of-requires : tie.Need-by-way-of-requires
+by-way-of-requires c κs = search needs
+
+same-length-2 : tie.Need-same-length-2
+same-length-2 c = search needs
+
+returns-2 : tie.Need-returns-2
+returns-2 c = record { laid = c .before .before .before .before .before .by-way-of .ensures; stays = refl }
+
+pub account-text-spec : {M : Type 1} → statement M
+account-text-spec =
+    tie.close
+    (tie.spec
+    refusal-text-requires
+    same-length
+    returns
+    slice-aggregate-by-way-of
+    slice-aggregate-by-way-of-2
+    slice-aggregate-by-way-of-3
+    by-way-of-requires
+    same-length-2
+    returns-2)

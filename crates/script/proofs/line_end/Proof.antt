@@ -1,0 +1,14 @@
+-- `script::line_end` meets its contract. Assumes nothing.
+use mathlib.Core.Path.{refl}
+use borrow.Author.Needs.{needs}
+use Rattle.script.proofs.line_end.Statement.{statement}
+use Rattle.script.proofs.line_end.Tie as tie
+
+next-requires : tie.Need-next-requires
+next-requires c κs = search needs
+
+returns : tie.Need-returns
+returns c = record { answers = c .next .ensures; stays = refl }
+
+pub line-end-spec : {M : Type 1} → statement M
+line-end-spec = tie.close (tie.spec next-requires returns)

@@ -1,0 +1,56 @@
+-- The rule's own facts (Account and its calls, "Statement"; Buyer's note: "the closeness of shares [is] proved for the rules themselves,
+-- whatever profile or n"). For any n, any good weights and any readings that never fall; proofs/Has.antt and proofs/Facts.antt prove them.
+use Prim.Native.Nat.{ℕ, suc, _≤_, _<_}
+use mathlib.Core.Path.{_≡_}
+use mathlib.Core.Bool.{true, false}
+use mathlib.Core.List.{List}
+use lib.Dec.{ltb}
+use lib.ListN.{length, getD}
+use Rattle.account.specs.Boundaries.{howMany}
+use Rattle.account.specs.Stands.{Stands, Readings, neverFalling, lastLessFirst}
+use Rattle.account.specs.Account.{goodWeights}
+use Rattle.statement.specs.Split.{has}
+use Rattle.statement.specs.Parts.{Outputs, marked, parts, written}
+use Rattle.statement.specs.Shares.{Adjacent, Shared, total, energy}
+
+-- all that the facts ask of the weights and of the readings that stand
+pub record Fair (w : List ℕ) (r : Readings) : Type 0 where
+  pub weights : goodWeights w ≡ true
+  pub rises : neverFalling r (suc (length w)) ≡ true
+
+-- fewer than two readings is not the case
+abbrev pub TwoRead : List ℕ → Stands → Type 0
+TwoRead w s = ltb (howMany (s .readings .at) (suc (length w))) 2 ≡ false
+
+-- the slices of a statement given
+abbrev pub statementOf : List ℕ → Stands → Outputs
+statementOf w s = written (length w) (parts w s)
+
+-- What a boundary has depends only on its two enclosing readings, their counts and the weights between. (proofs/Has, `has-only`)
+abbrev pub EnclosedOnly : Type 0
+EnclosedOnly =
+    (v w : List ℕ) (r s : Readings) → Fair v r → Fair w s → (p q : ℕ) → Adjacent r p q → Adjacent s p q →
+    q ≤ length v → q ≤ length w → r .count p ≡ s .count p → r .count q ≡ s .count q →
+    ((d : ℕ) → p ≤ d → d < q → getD v d 0 ≡ getD w d 0) → (k : ℕ) → p ≤ k → k ≤ q → has v r k ≡ has w s k
+
+-- "Its parts add up exactly to the last standing reading less the first." (`sums-up`)
+abbrev pub SumsUp : Type 0
+SumsUp =
+    (w : List ℕ) (s : Stands) → Fair w (s .readings) → TwoRead w s →
+    total (statementOf w s) (length (parts w s)) ≡ lastLessFirst (length w) (s .readings)
+
+-- "Each part is less than 1 Wh from its exact share between its two enclosing readings." (`shared`)
+abbrev pub SharesClose : Type 0
+SharesClose =
+    (w : List ℕ) (s : Stands) → Fair w (s .readings) → TwoRead w s → (i : ℕ) → i < length (parts w s) →
+    Shared w (s .readings) (getD (statementOf w s .from) i 0) (getD (statementOf w s .to) i 0) (getD (statementOf w s .wh) i 0)
+
+-- "Where the same two adjacent readings with the same counts enclose a marked boundary in two statements .., the energy between the
+-- earlier of them and that boundary is the same in both." (`same-energy`)
+abbrev pub SameEnergy : Type 0
+SameEnergy =
+    (w : List ℕ) (s t : Stands) → Fair w (s .readings) → Fair w (t .readings) → (p q b : ℕ) →
+    Adjacent (s .readings) p q → Adjacent (t .readings) p q →
+    s .readings .count p ≡ t .readings .count p → s .readings .count q ≡ t .readings .count q → q ≤ length w →
+    p ≤ b → b ≤ q → marked s b ≡ true → marked t b ≡ true →
+    energy (statementOf w s) p b (length (parts w s)) ≡ energy (statementOf w t) p b (length (parts w t))
