@@ -8,7 +8,7 @@ use Rattle.profile.specs.Limits.{weightLeast, weightMost, spanMost}
 use Rattle.account.specs.Boundaries.{every}
 use Rattle.account.specs.Stands.{Stands, Readings, neverFalling, lastLessFirst}
 
--- "Weights (n), marks (n+1), counts (n+1)."
+-- weights (n), marks and counts (n+1)
 pub record Account : Type 0 where
   pub weights : List ℕ
   pub marks : List ℕ
@@ -21,7 +21,7 @@ account w m c = record { weights = w; marks = m; counts = c }
 abbrev pub days : Account → ℕ
 days a = length (a .weights)
 
--- "Marks: 0 none, 1 cut, 2 reading, 3 both."
+-- marks: "0 none, 1 cut, 2 reading, 3 both"
 abbrev pub marksReading : ℕ → Bool
 marksReading m = eqb m 2 || eqb m 3
 

@@ -14,7 +14,7 @@ outOfOrder n r k v =
     some (λ j. ltb j k && (r .at j && ltb v (r .count j))) (suc n) ||
     some (λ j. ltb k j && (r .at j && ltb (r .count j) v)) (suc n)
 
--- 9: "last less first above 2,000,000,000", the call's own count taken in among those standing
+-- 9: last less first above 2,000,000,000, the call's own count taken in among those standing
 abbrev pub tooMuch : ℕ → Readings → ℕ → ℕ → Bool
 tooMuch n r k v = ltb energyMost (lastLessFirst n (withReading r k v))
 

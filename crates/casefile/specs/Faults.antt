@@ -1,5 +1,5 @@
--- The faults of a case file (If a call declines): "The file reader ... goes front to back; its refusals 1 to 9 and 13 carry the offset of
--- the field at fault, and 13 comes first within an item, an early end before a boundary that fails to rise."
+-- The faults of a case file (If a call declines): the reader "goes front to back; its refusals 1 to 9 and 13 carry the offset of the field at
+-- fault", "and 13 comes first within an item", "an early end before a boundary that fails to rise".
 use Prim.Native.Nat.{ℕ, zero, suc, _+_, _-_}
 use mathlib.Core.Bool.{Bool, true, false, not}
 use mathlib.Core.List.{List}
@@ -36,7 +36,7 @@ firstFault f (suc m) = firstFault f m before f m
 abbrev pub early : List ℕ → ℕ → Fault
 early s to = fault (ltb (length s) to) 13 (length s)
 
--- 13: "a boundary fails to rise (place: that boundary)", the item's number being i
+-- 13: "a boundary that fails to rise (place: that boundary)", the item's number being i
 abbrev pub falls : (ℕ → ℕ) → ℕ → Bool
 falls boundary zero = false
 falls boundary (suc i) = leb (boundary (suc i)) (boundary i)

@@ -1,5 +1,5 @@
 -- The reader of case files (Case file, If a call declines): it "fills weights, marks and counts, slices of lengths 1,096, 1,097 and 1,097,
--- the rest zero. It returns n." "After a fault every slice it was lent is zero, unless the lengths were unfit."
+-- the rest zero. It returns n." "After a fault every slice it was lent is zero", "unless the lengths were unfit".
 use Prim.Native.Nat.{ℕ, _+_, _-_, _<_}
 use mathlib.Core.Path.{_≡_}
 use mathlib.Core.Bool.{Bool, true, false, cond, not, _||_}
@@ -43,7 +43,7 @@ unfitSlices a =
     not (eqb (length (a .marks)) (spanMost + 1)) ||
     not (eqb (length (a .counts)) (spanMost + 1))
 
--- "checks slice lengths first (3 at 0)", then the file
+-- "The file reader checks slice lengths first" (3 at 0), then the file
 abbrev pub verdict : List ℕ → Account → Fault
 verdict s lent = cond (unfitSlices lent) (refused 3 0) (faultOf s)
 

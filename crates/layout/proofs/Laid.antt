@@ -1,6 +1,6 @@
 -- Two texts laid out one after the other are their joined text laid out. Assumes nothing.
 use mathlib.Core.Path.{_≡_, refl, sym, ap, _∙_}
-use mathlib.Core.List.{List, [], _∷_, _++_}
+use mathlib.Core.List.{List, [], _∷_, _++_, append-assoc}
 use Prim.Native.Nat.{ℕ, suc, _+_}
 use native.Mathlib.Nat.{add-zero}
 use native.Mathlib.Omega.{arith}
@@ -28,6 +28,11 @@ then-laid {at} {xs} {o} {m} {p} {ys} one two =
           ap (λ (l : List ℕ). sets l (at + length xs) ys) (one .stored) ∙
           sets-append o at xs ys;
     }
+
+-- the same where the second is two joined already
+pub then-both : {at : ℕ} {xs o : List ℕ} {m : ℕ} {p : List ℕ} {n : ℕ} {q : List ℕ} (ys zs : List ℕ) →
+    LaidOut at xs o m p → LaidOut m (ys ++ zs) p n q → LaidOut at (xs ++ ys ++ zs) o n q
+then-both {xs = xs} ys zs one two = rw (append-assoc xs ys zs) (then-laid one two)
 
 -- what is laid out where there can be no such statement: nothing
 pub none-laid : (o : Outputs) (m : ℕ) (out : List ℕ) → noStatement o m ≡ true → TextMet (statementText o m) out 0 out o o

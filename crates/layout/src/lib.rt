@@ -28,10 +28,8 @@ pub fn refusal_text(number: u8, place: usize, out: &mut [u8]) -> usize
     ensures { λ r. ⌜ LaidOut 0 (refusalText number place) (now (out .entry)) r (now (out .exit)) ⌝ }
 {
     let at = put::word(out, 0, b"refused ");
-    let at = put::number(out, at, number as u64);
-    let at = put::word(out, at, b" ");
-    let at = put::number(out, at, place as u64);
-    put::word(out, at, b"\n")
+    let at = put::number(out, at, number as u64, b' ');
+    put::number(out, at, place as u64, b'\n')
 }
 
 // The word `done`, at the start of out.
@@ -46,8 +44,7 @@ pub fn unknown_text(line: usize, out: &mut [u8]) -> usize
     ensures { λ r. ⌜ LaidOut 0 (unknownText line) (now (out .entry)) r (now (out .exit)) ⌝ }
 {
     let at = put::word(out, 0, b"unknown ");
-    let at = put::number(out, at, line as u64);
-    put::word(out, at, b"\n")
+    put::number(out, at, line as u64, b'\n')
 }
 
 // The text of a statement of so many parts, at the start of out; nothing where no statement can be like that.
@@ -81,12 +78,10 @@ fn parts_text(from: &[u16], to: &[u16], wh: &[u64], parts: usize, sum: u64, out:
     ensures { λ r. ⌜ LaidOut 0 (partsText (outputs (now (from .entry)) (now (to .entry)) (now (wh .entry))) parts sum) (now (out .entry)) r (now (out .exit)) ⌝ }
 {
     let at = put::word(out, 0, b"parts ");
-    let at = put::number(out, at, parts as u64);
-    let at = put::word(out, at, b"\n");
+    let at = put::number(out, at, parts as u64, b'\n');
     let at = lines(from, to, wh, parts, out, at);
     let at = put::word(out, at, b"sum ");
-    let at = put::number(out, at, sum);
-    put::word(out, at, b"\n")
+    put::number(out, at, sum, b'\n')
 }
 
 // Whether one of the first parts has more Wh than an account can have.
@@ -124,12 +119,9 @@ fn line(from: u16, to: u16, wh: u64, out: &mut [u8], at: usize) -> usize
     ensures { λ r. ⌜ LaidOut at (lineOf from to wh) (now (out .entry)) r (now (out .exit)) ⌝ }
     ensures { λ r. ⌜ r ≤ at + 63 ⌝ }
 {
-    let at = put::number(out, at, from as u64);
-    let at = put::word(out, at, b" ");
-    let at = put::number(out, at, to as u64);
-    let at = put::word(out, at, b" ");
-    let at = put::number(out, at, wh);
-    put::word(out, at, b"\n")
+    let at = put::number(out, at, from as u64, b' ');
+    let at = put::number(out, at, to as u64, b' ');
+    put::number(out, at, wh, b'\n')
 }
 
 // The lines of the first parts from offset at on; the next offset, at most 63 for each part further.

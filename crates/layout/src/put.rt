@@ -1,6 +1,6 @@
 // Bytes, words and decimal numbers, put one after the other into a lent slice.
 ghost use Prim.Native.Nat.{_+_, _<_, _≤_, _^_};
-ghost use mathlib.Core.List.{_∷_, []};
+ghost use mathlib.Core.List.{_∷_, [], _++_};
 ghost use lib.ListN.{length};
 ghost use Rattle.layout.specs.Text.{LaidOut, decimal};
 
@@ -29,13 +29,14 @@ pub(crate) fn word(out: &mut [u8], at: usize, text: &[u8]) -> usize
     at + i
 }
 
-// A number in decimal digits from offset at on; the next offset, at most 20 further.
-pub(crate) fn number(out: &mut [u8], at: usize, n: u64) -> usize
-    requires { ⌜ at + 20 < 2 ^ 62 ⌝ }
-    ensures { λ r. ⌜ LaidOut at (decimal n) (now (out .entry)) r (now (out .exit)) ⌝ }
-    ensures { λ r. ⌜ r ≤ at + 20 ⌝ }
+// A number in decimal digits and the byte after it, from offset at on; the next offset, at most 21 further.
+pub(crate) fn number(out: &mut [u8], at: usize, n: u64, after: u8) -> usize
+    requires { ⌜ at + 21 < 2 ^ 62 ⌝ }
+    ensures { λ r. ⌜ LaidOut at (decimal n ++ (after ∷ [])) (now (out .entry)) r (now (out .exit)) ⌝ }
+    ensures { λ r. ⌜ r ≤ at + 21 ⌝ }
 {
     let mut text = [0u8; 20];
     let k = io::decimal(n, &mut text);
-    word(out, at, &text[..k])
+    let at = word(out, at, &text[..k]);
+    byte(out, at, after)
 }

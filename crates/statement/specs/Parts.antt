@@ -39,7 +39,7 @@ partsBelow w s (suc m) = partsBelow w s m ++ cond (endsPart w s m) (partTo w s m
 abbrev pub parts : List ℕ → Stands → List Part
 parts w s = partsBelow w s (suc (length w))
 
--- "It writes from, to and Wh into slices of length n, zero past the parts."
+-- It writes from, to and Wh "into slices of length n, zero past the parts".
 pub record Outputs : Type 0 where
   pub from : List ℕ
   pub to : List ℕ

@@ -1,6 +1,7 @@
--- `layout::refusal_text` meets its contract: its words and numbers, one after the other. Assumes nothing.
+-- `layout::refusal_text` meets its contract: its word and numbers, one after the other. Assumes nothing.
+use Rattle.layout.specs.Text.{decimal, space, lineFeed}
+use Rattle.layout.proofs.Laid.{then-both}
 use borrow.Author.Needs.{needs}
-use Rattle.layout.proofs.Laid.{then-laid}
 use Rattle.layout.proofs.refusal_text.Statement.{statement}
 use Rattle.layout.proofs.refusal_text.Tie as tie
 
@@ -13,38 +14,19 @@ word-requires c κs = search needs
 number-requires : tie.Need-number-requires
 number-requires c κs = search needs
 
-slice-aggregate-word-2 : tie.Need-slice-aggregate-word-2
-slice-aggregate-word-2 c = search needs
-
-word-requires-2 : tie.Need-word-requires-2
-word-requires-2 c κs = search needs
-
 number-requires-2 : tie.Need-number-requires-2
 number-requires-2 c κs = search needs
-
-slice-aggregate-word-3 : tie.Need-slice-aggregate-word-3
-slice-aggregate-word-3 c = search needs
-
-word-requires-3 : tie.Need-word-requires-3
-word-requires-3 c κs = search needs
 
 same-length : tie.Need-same-length
 same-length c = search needs
 
 returns : tie.Need-returns
 returns c =
-    let feed = c .before .before in
-    let second = feed .before .before .before .before .before in
-    let space = second .before .before .before .before in
-    let first = space .before .before .before .before .before in
+    let second = c .before .before in
+    let first = second .before .before .before .before in
     let refused = first .before .before .before .before in
-    then-laid
-    (then-laid
-    (then-laid
-    (then-laid (refused .word .ensures) (first .number .ensures .0))
-    (space .word2 .ensures))
-    (second .number2 .ensures .0))
-    (feed .word3 .ensures)
+    let a = refused .before .before .before .before .args in
+    then-both (decimal (a .place)) lineFeed (then-both (decimal (a .number)) space (refused .word .ensures) (first .number .ensures .0)) (second .number2 .ensures .0)
 
 pub refusal-text-spec : {M : Type 1} → statement M
 refusal-text-spec =
@@ -53,10 +35,6 @@ refusal-text-spec =
     slice-aggregate-word
     word-requires
     number-requires
-    slice-aggregate-word-2
-    word-requires-2
     number-requires-2
-    slice-aggregate-word-3
-    word-requires-3
     same-length
     returns)
