@@ -39,7 +39,8 @@ lastReading n r = last (r .at) (suc n)
 unfoldable pub lastLessFirst : ℕ → Readings → ℕ
 lastLessFirst n r = r .count (lastReading n r) - r .count (firstReading n r)
 
--- "Readings never falling", below boundary m: each has at least what the reading before it has
+-- "Readings never falling", below boundary m: each has at least what the reading before it has; the first is asked for no less than boundary
+-- 0 has, which is 0 where no reading is there
 unfoldable pub neverFalling : Readings → ℕ → Bool
 neverFalling r zero = true
 neverFalling r (suc m) = neverFalling r m && cond (r .at m) (leb (r .count (last (r .at) m)) (r .count m)) true
