@@ -7,13 +7,12 @@ use lib.Dec.{leb, ltb, eqb, lit<}
 use lib.ListN.{length, getD, set, length-set, length-replicate, List·getD-eq-default}
 use borrow.Author.Tests.{le-leb, ltb-false, not-false}
 use native.Mathlib.Omega.{arith}
-use Rattle.account.specs.Boundaries.{every}
+use Rattle.account.specs.Below.{every}
 use Rattle.account.specs.Stands.{Stands, nothing, put, withReading, withoutReading, lastLessFirst}
 use Rattle.account.specs.Account.{Account, account, shown, days, unfit, sound, goodWeights, goodMarks, zeroCounts, energyMost, markOf}
-use Rattle.profile.specs.Rows.{row}
-use Rattle.account.specs.Table.{outOfOrder, tooMuch, openNumber, readingRows, withdrawRows, cutRows, uncutRows}
+use Rattle.account.specs.Refusals.{outOfOrder, tooMuch, openNumber, readingRows, withdrawRows, cutRows, uncutRows}
 use Rattle.account.specs.Calls.{cleared, readingPut, readingTaken, cutPut, cutTaken}
-use Rattle.account.proofs.Boundaries.{clash, every-at}
+use Rattle.account.proofs.Below.{clash, every-at}
 use Rattle.account.proofs.Sound.{fit, Sound, sound-parts}
 use Rattle.account.proofs.Rows.{Checked, row-none}
 use Rattle.account.proofs.Shows.{set-asked, shows-cut, shows-reading, shows-nothing, zeros}

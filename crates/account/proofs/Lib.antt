@@ -1,4 +1,4 @@
-pub mod Boundaries
+pub mod Below
 pub mod Clear
 pub mod Order
 pub mod Sound

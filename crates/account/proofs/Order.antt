@@ -1,14 +1,13 @@
 -- Laws of `neverFalling`: it is found in one pass that carries the last reading's count. Assumes nothing.
 use Prim.Native.Nat.{ℕ, zero, suc, _≤_, _<_}
-use native.Mathlib.Nat.{not-suc-le-zero, le-of-suc-le-suc, eq-or-lt-of-le, le-refl}
-use mathlib.Core.Path.{_≡_, refl, sym, ap, subst, _∙_}
+use native.Mathlib.Nat.{not-suc-le-zero, le-of-suc-le-suc, eq-or-lt-of-le}
+use mathlib.Core.Path.{_≡_, refl, sym, subst}
 use mathlib.Core.Logic.{⊎-elim}
-use mathlib.Core.Bool.{Bool, true, false, cond, _&&_, _||_, and-false}
-use borrow.Author.Tests.{le-leb, lt-leb, eqb-true}
+use mathlib.Core.Bool.{Bool, true, false, cond, _||_, and-false, or-true, or-false}
+use borrow.Author.Tests.{le-leb, lt-leb}
 use lib.Dec.{leb, eqb, leb·zero}
-use Rattle.account.specs.Boundaries.{every, last}
+use Rattle.account.specs.Below.{some, last}
 use Rattle.account.specs.Stands.{Readings, neverFalling}
-use Rattle.account.proofs.Boundaries.{both}
 
 -- "zero without a reading", at k
 abbrev pub zeroAt : Readings → ℕ → Bool
@@ -20,38 +19,35 @@ carried r zero = 0
 carried r (suc m) = cond (r .at m) (r .count m) (carried r m)
 
 module _ (r : Readings) where
-  pick : (b : Bool) (m l x : ℕ) → (b ≡ false → x ≡ r .count l) → cond b (r .count m) x ≡ r .count (cond b m l)
-  pick true m l x h = refl
-  pick false m l x h = h refl
-
-  carried-below : (m : ℕ) → every (zeroAt r) (suc m) ≡ true → carried r (suc m) ≡ r .count (last (r .at) (suc m))
-  unfolding every last
-  carried-below zero z = pick (r .at 0) 0 0 0 (λ e. sym (eqb-true _ 0 (rw e at z)))
-  carried-below (suc m) z =
-      pick (r .at (suc m)) (suc m) (last (r .at) (suc m)) (carried r (suc m))
-      (λ e. carried-below m (both (every (zeroAt r) (suc m)) (zeroAt r (suc m)) z .0))
+  carried-is : (m : ℕ) → carried r m ≡ cond (some (r .at) m) (r .count (last (r .at) m)) 0
+  unfolding some last
+  carried-is zero = refl
+  carried-is (suc m) = go (carried-is m) (r .at m)
+    where
+      go : carried r m ≡ cond (some (r .at) m) (r .count (last (r .at) m)) 0 → (b : Bool) →
+          cond b (r .count m) (carried r m) ≡ cond (some (r .at) m || b) (r .count (cond b m (last (r .at) m))) 0
+      go rest true = rw or-true
+      go rest false = rw or-false rest
 
   -- at a reading, the test with the count carried is that of `neverFalling`
-  same-test : (k : ℕ) → every (zeroAt r) k ≡ true → leb (r .count (last (r .at) k)) (r .count k) ≡ leb (carried r k) (r .count k)
-  unfolding last
-  same-test zero z = le-leb (r .count 0) (r .count 0) (le-refl (r .count 0)) ∙ sym (leb·zero (r .count 0))
-  same-test (suc m) z = ap (λ (x : ℕ). leb x (r .count (suc m))) (sym (carried-below m z))
-
-  pub rising : (k : ℕ) → every (zeroAt r) k ≡ true → neverFalling r k ≡ true → carried r k ≤ r .count k → neverFalling r (suc k) ≡ true
-  unfolding neverFalling
-  rising k z e h = rw (e, same-test k z, le-leb _ _ h) (go (r .at k))
+  same-test : (k : ℕ) → cond (some (r .at) k) (leb (r .count (last (r .at) k)) (r .count k)) true ≡ leb (carried r k) (r .count k)
+  same-test k = rw (carried-is k) (go (some (r .at) k))
     where
-      go : (b : Bool) → cond b true true ≡ true
+      go : (b : Bool) → cond b (leb (r .count (last (r .at) k)) (r .count k)) true ≡ leb (cond b (r .count (last (r .at) k)) 0) (r .count k)
       go true = refl
-      go false = refl
+      go false = sym (leb·zero (r .count k))
+
+  pub rising : (k : ℕ) → neverFalling r k ≡ true → r .at k ≡ true → carried r k ≤ r .count k → neverFalling r (suc k) ≡ true
+  unfolding neverFalling
+  rising k e at h = rw (e, at, same-test k, le-leb _ _ h)
 
   pub passing : (k : ℕ) → neverFalling r k ≡ true → r .at k ≡ false → neverFalling r (suc k) ≡ true
   unfolding neverFalling
   passing k e h = rw (e, h)
 
-  pub falling : (k : ℕ) → every (zeroAt r) k ≡ true → r .at k ≡ true → r .count k < carried r k → neverFalling r (suc k) ≡ false
+  pub falling : (k : ℕ) → r .at k ≡ true → r .count k < carried r k → neverFalling r (suc k) ≡ false
   unfolding neverFalling
-  falling k z e h = rw (e, same-test k z, lt-leb _ _ h) (and-false (neverFalling r k))
+  falling k e h = rw (e, same-test k, lt-leb _ _ h) (and-false (neverFalling r k))
 
   pub falls : (m k : ℕ) → k < m → neverFalling r (suc k) ≡ false → neverFalling r m ≡ false
   unfolding neverFalling

@@ -1,6 +1,6 @@
 -- "Readings never falling" by pairs (Account and its calls): of any two readings the later has at least what the earlier has. What a
 -- reading taken in, or one removed, leaves of that. Assumes nothing.
-use Prim.Native.Nat.{ℕ, zero, suc, _-_, _≤_, _<_}
+use Prim.Native.Nat.{ℕ, zero, suc, _≤_, _<_}
 use mathlib.Core.Path.{_≡_, refl}
 use mathlib.Core.Logic.{⊎-elim}
 use mathlib.Core.Bool.{Bool, true, false, cond, _&&_}
@@ -8,10 +8,10 @@ use native.Mathlib.Nat.{eq-or-lt-of-le}
 use native.Mathlib.Omega.{arith}
 use lib.Dec.{leb, ltb, eqb}
 use borrow.Author.Tests.{le-leb, eqb-true, eqb-false, lt-ltb, ltb-false}
-use Rattle.account.specs.Boundaries.{some, last}
+use Rattle.account.specs.Below.{some, last}
 use Rattle.account.specs.Stands.{Readings, withReading, neverFalling, lastLessFirst, firstReading, lastReading}
-use Rattle.account.specs.Table.{outOfOrder}
-use Rattle.account.proofs.Boundaries.{clash, neither, none-at, first-found, last-found, first-least, last-most, last-zero, last-less, last-holds, rising}
+use Rattle.account.specs.Refusals.{outOfOrder}
+use Rattle.account.proofs.Below.{clash, neither, none-at, first-found, last-found, first-least, last-most, last-less, last-holds, some-at, first-some, rising}
 
 -- of two readings below m the later has at least what the earlier has
 abbrev pub Rising : Readings → ℕ → Type 0
@@ -25,29 +25,25 @@ pairs r m h (suc i) le j k ordered lt at-j at-k = ⊎-elim (λ e. rw e (omega ar
     before rest less =
         let l = last-found (r .at) k j less at-j in
         let up = rest j (last (r .at) k) (last-most (r .at) l less at-j) (omega arith) at-j (l .holds) in
-        omega (arith, rising r m h k (omega arith) at-k)
-
-last-within : (p : ℕ → Bool) (m : ℕ) → last p m ≤ m
-last-within p zero = omega (arith, last-zero p)
-last-within p (suc m) = omega (arith, last-less p (suc m) (omega arith))
+        omega (arith, rising r m h k (omega arith) at-k (some-at (r .at) k j less at-j))
 
 -- the last that is asked about, where it is not one, is 0
 last-none : (p : ℕ → Bool) (m : ℕ) → p (last p m) ≡ false → last p m ≡ 0
 last-none p m h = let found : 0 < last p m → ⊥ = λ some. clash (last-holds p m some) h in omega arith
 
--- the other way, where the count is 0 without a reading
-pub neighbours : (r : Readings) (m : ℕ) → (r .at 0 ≡ false → r .count 0 ≡ 0) → Rising r m → neverFalling r m ≡ true
+-- the other way
+pub neighbours : (r : Readings) (m : ℕ) → Rising r m → neverFalling r m ≡ true
 unfolding neverFalling
-neighbours r zero zeros rises = refl
-neighbours r (suc m) zeros rises =
-    rw (neighbours r m zeros (λ j k le lt. rises j k le (omega arith))) (go (r .at m) refl (r .at (last (r .at) m)) refl)
+neighbours r zero rises = refl
+neighbours r (suc m) rises =
+    rw (neighbours r m (λ j k le lt. rises j k le (omega arith))) (go (r .at m) refl (some (r .at) m) refl)
   where
-    go : (b : Bool) → r .at m ≡ b → (c : Bool) → r .at (last (r .at) m) ≡ c → cond b (leb (r .count (last (r .at) m)) (r .count m)) true ≡ true
+    go : (b : Bool) → r .at m ≡ b → (c : Bool) → some (r .at) m ≡ c → cond (b && c) (leb (r .count (last (r .at) m)) (r .count m)) true ≡ true
     go true e true f =
-        le-leb (r .count (last (r .at) m)) (r .count m) (rises (last (r .at) m) m (last-within (r .at) m) (omega arith) f e)
-    go true e false f =
-        let z = last-none (r .at) m f in
-        le-leb (r .count (last (r .at) m)) (r .count m) (rw z (omega (arith, zeros (rw z at f))))
+        let earlier = first-some (r .at) m f in
+        let l = last-found (r .at) m _ (earlier .below) (earlier .holds) in
+        le-leb _ (r .count m) (rises (last (r .at) m) m (omega arith) (omega arith) (l .holds) e)
+    go true e false f = refl
     go false e c f = refl
 
 -- every reading of one is a reading of the other, with the same count

@@ -1,16 +1,15 @@
 -- The pass over marks and counts that finds whether they are sound: what it knows after k boundaries, and when it fails. Assumes nothing.
-use Prim.Native.Nat.{ℕ, suc, _+_, _≤_, _<_}
-use native.Mathlib.Numerals.{add-one}
-use mathlib.Core.Path.{_≡_, refl, sym, ap, subst, _∙_}
-use mathlib.Core.Bool.{Bool, true, false, _&&_, _||_, and-false, or-false}
+use Prim.Native.Nat.{ℕ, suc, _≤_, _<_}
+use mathlib.Core.Path.{_≡_, refl, subst}
+use mathlib.Core.Bool.{true, false, and-false}
 use borrow.Author.Tests.{le-leb, lt-leb, eq-eqb, ne-eqb}
-use lib.Dec.{leb, eqb}
+use lib.Dec.{leb}
 use lib.ListN.{getD}
-use Rattle.account.specs.Boundaries.{every}
+use Rattle.account.specs.Below.{every}
 use Rattle.account.specs.Stands.{neverFalling}
 use Rattle.account.specs.Account.{Account, days, shown, marksReading, goodMarks, zeroCounts}
 use Rattle.account.specs.Slices.{goodBoundaries}
-use Rattle.account.proofs.Boundaries.{every-zero, every-more, every-fails}
+use Rattle.account.proofs.Below.{every-zero, every-more, every-fails}
 use Rattle.account.proofs.Order.{zeroAt, carried, rising, passing, falling, falls}
 
 pub record Passed (a : Account) (k last : ℕ) : Type 0 where
@@ -29,7 +28,7 @@ module _ (a : Account) (k last : ℕ) where
       record {
         marks = every-more _ k (p .marks) (le-leb _ _ m);
         zeros = every-more _ k (p .zeros) (rw e);
-        order = rising _ k (p .zeros) (p .order) (subst (λ (x : ℕ). x ≤ getD (a .counts) k 0) (p .carries) l);
+        order = rising _ k (p .order) e (subst (λ (x : ℕ). x ≤ getD (a .counts) k 0) (p .carries) l);
         carries = rw e;
       }
 
@@ -54,7 +53,7 @@ module _ (a : Account) (k last : ℕ) where
   bad-order p l e h =
       simp (
         falls (shown a .readings) _ k l
-            (falling _ k (p .zeros) e (subst (λ (x : ℕ). getD (a .counts) k 0 < x) (p .carries) h)),
+            (falling _ k e (subst (λ (x : ℕ). getD (a .counts) k 0 < x) (p .carries) h)),
         and-false,
       )
 

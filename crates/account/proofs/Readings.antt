@@ -6,11 +6,11 @@ use mathlib.Core.Bool.{Bool, true, false, cond, _||_}
 use native.Mathlib.Omega.{arith}
 use lib.Dec.{eqb}
 use borrow.Author.Tests.{eqb-true, ltb-false}
-use Rattle.account.specs.Boundaries.{every}
+use Rattle.account.specs.Below.{every}
 use Rattle.account.specs.Stands.{Readings, nothing, put, withReading, withoutReading, neverFalling, lastLessFirst}
 use Rattle.account.specs.Account.{energyMost}
-use Rattle.account.specs.Table.{outOfOrder, tooMuch}
-use Rattle.account.proofs.Boundaries.{clash, every-at}
+use Rattle.account.specs.Refusals.{outOfOrder, tooMuch}
+use Rattle.account.proofs.Below.{clash, every-at}
 use Rattle.account.proofs.Order.{zeroAt}
 use Rattle.account.proofs.Pairs.{pairs, neighbours, Within, fewer-rise, fewer-less, more-rise}
 
@@ -40,11 +40,10 @@ module _ (n : ℕ) (r : Readings) (good : SoundReadings n r) (k : ℕ) where
 
   pub reading-sound : (v : ℕ) → outOfOrder n r k v ≡ false → tooMuch n r k v ≡ false → SoundReadings n (withReading r k v)
   reading-sound v fits small =
-      let zeros = zeros-put true v refl in
       record {
-        zeros = zeros;
+        zeros = zeros-put true v refl;
         order =
-            neighbours (withReading r k v) (suc n) (zero-count n (withReading r k v) zeros 0 (omega arith))
+            neighbours (withReading r k v) (suc n)
             (more-rise n r k v fits (pairs r (suc n) (good .order) (suc n) (omega arith)));
         energy = ltb-false energyMost (lastLessFirst n (withReading r k v)) small;
       }
@@ -56,7 +55,7 @@ module _ (n : ℕ) (r : Readings) (good : SoundReadings n r) (k : ℕ) where
       let rises = pairs r (suc n) (good .order) (suc n) (omega arith) in
       record {
         zeros = zeros;
-        order = neighbours (withoutReading r k) (suc n) zero-at (fewer-rise (withoutReading r k) r fewer (suc n) rises);
+        order = neighbours (withoutReading r k) (suc n) (fewer-rise (withoutReading r k) r fewer (suc n) rises);
         energy = omega (arith, fewer-less (withoutReading r k) r fewer n zero-at rises, good .energy);
       }
     where
@@ -76,6 +75,6 @@ unfolding lastLessFirst
 nothing-sound n =
     record {
       zeros = every-is _ _ (λ k h. refl);
-      order = neighbours (nothing .readings) (suc n) (λ none. refl) (λ j k le lt at-j at-k. absurd (clash at-j refl));
+      order = neighbours (nothing .readings) (suc n) (λ j k le lt at-j at-k. absurd (clash at-j refl));
       energy = omega arith;
     }

@@ -1,15 +1,15 @@
 -- The rows of the table, from the facts that lead to each of them, and back. Assumes nothing.
-use Prim.Native.Nat.{ℕ, suc, _≤_, _<_}
+use Prim.Native.Nat.{ℕ, _≤_, _<_}
 use native.Mathlib.Omega.{arith}
 use mathlib.Core.Path.{_≡_, refl, sym, ap, ap₂, _∙_}
-use mathlib.Core.Bool.{Bool, true, false, not, _&&_}
+use mathlib.Core.Bool.{Bool, true, false, not}
 use borrow.Author.Tests.{le-leb, lt-leb, le-ltb, ltb-false, not-false}
-use lib.Dec.{leb, ltb, eqb, lit<}
+use lib.Dec.{ltb, lit<}
 use lib.ListN.{length}
 use Rattle.account.specs.Account as accounts
 use Rattle.account.specs.Account.{Account, days, shown, unfit, sound, goodWeights, energyMost}
 use Rattle.profile.specs.Rows.{row}
-use Rattle.account.specs.Table.{accountRows}
+use Rattle.account.specs.Refusals.{accountRows}
 use Rattle.account.specs.Slices.{Fit, readsAt, countAt, spread, goodBoundaries, boundaryRows, nextRow}
 use Rattle.account.proofs.Sound.{fit}
 use Rattle.account.proofs.Spread.{spread-is}

@@ -1,19 +1,16 @@
 -- What an account that fits and is sound has: the facts behind `unfit`, `sound` and the rows 3 and 5. Assumes nothing.
 use Prim.Native.Nat.{ℕ, suc, _+_, _≤_, _<_}
-use native.Mathlib.Numerals.{add-one}
-use mathlib.Core.Path.{_≡_, refl, sym, ap, _∙_}
-use mathlib.Core.Bool.{Bool, true, false, not, _&&_, _||_}
+use mathlib.Core.Path.{_≡_}
+use mathlib.Core.Bool.{true, false, not, _&&_, _||_}
 use borrow.Author.Tests.{leb-true, eqb-true, not-false}
 use lib.Dec.{leb, eqb}
 use mathlib.Core.List.{List}
 use lib.ListN.{length, getD}
 use Rattle.profile.specs.Limits.{weightLeast, weightMost, spanMost}
 use Rattle.account.specs.Stands.{neverFalling, lastLessFirst}
-use Rattle.account.specs.Account.{Account, days, shown, badSpan, unfit, sound, goodWeight, goodWeights, goodMarks, zeroCounts, marksReading, energyMost}
+use Rattle.account.specs.Account.{Account, days, shown, badSpan, unfit, sound, goodWeights, goodMarks, zeroCounts, energyMost}
 use Rattle.account.specs.Slices.{Fit}
-use Rattle.profile.specs.Rows.{row}
-use Rattle.account.specs.Table.{accountRows}
-use Rattle.account.proofs.Boundaries.{both, neither, every-at}
+use Rattle.account.proofs.Below.{both, neither, every-at}
 
 pub fit : (a : Account) → unfit a ≡ false → Fit a
 fit a h =

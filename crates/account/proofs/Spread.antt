@@ -4,7 +4,7 @@ use native.Mathlib.Numerals.{add-one}
 use mathlib.Core.Path.{_≡_, ap, ap₂, _∙_}
 use mathlib.Core.Bool.{Bool}
 use lib.ListN.{length}
-use Rattle.account.specs.Boundaries.{first, last}
+use Rattle.account.specs.Below.{first, last}
 use Rattle.account.specs.Stands.{Readings, lastLessFirst}
 use Rattle.account.specs.Account.{Account, days}
 use Rattle.account.specs.Slices.{Fit, spread}

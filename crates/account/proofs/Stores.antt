@@ -6,12 +6,11 @@ use mathlib.Core.Bool.{Bool, true, false, false≢true}
 use borrow.Author.Tests.{eq-eqb, ne-eqb}
 use lib.ListN.{length, getD}
 use Rattle.profile.specs.Limits.{spanMost}
-use Rattle.account.specs.Account.{Account, days, marksReading, marksCut, markOf}
-use Rattle.profile.specs.Rows.{row}
-use Rattle.account.specs.Calls.{left}
+use Rattle.account.specs.Account.{Account, marksReading, marksCut, markOf}
+use Rattle.profile.specs.Rows.{row, ifDone}
 use Rattle.account.specs.Slices.{boundaryRows}
 use Rattle.account.proofs.Sound.{sound-parts, mark-most}
-use Rattle.account.proofs.Rows.{row-none, Allowed, allowed, boundary-through}
+use Rattle.account.proofs.Rows.{row-none, allowed, boundary-through}
 
 -- each mark is made of whether it marks a reading and whether it marks a cut
 pub mark-is : (m : ℕ) → m ≤ 3 → m ≡ markOf (marksReading m) (marksCut m)
@@ -79,8 +78,8 @@ accepted a k asked n rest l e =
       free = row-none asked n rest l (sym (boundary-through a k (row asked n rest) h) ∙ e) .0;
     }
 
-pub leaves-done : (n : ℕ) (after done before : Account) → n ≡ 0 → after ≡ done → after ≡ left n done before
+pub leaves-done : (n : ℕ) (after done before : Account) → n ≡ 0 → after ≡ done → after ≡ ifDone n done before
 leaves-done n after done before e is = rw (eq-eqb n 0 e) is
 
-pub leaves-refused : (n : ℕ) (done before : Account) → (n ≡ 0 → ⊥) → before ≡ left n done before
+pub leaves-refused : (n : ℕ) (done before : Account) → (n ≡ 0 → ⊥) → before ≡ ifDone n done before
 leaves-refused n done before h = rw (ne-eqb n 0 h)

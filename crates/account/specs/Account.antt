@@ -2,13 +2,14 @@
 use Prim.Native.Nat.{ℕ, suc, _+_}
 use mathlib.Core.Bool.{Bool, true, false, not, _&&_, _||_}
 use mathlib.Core.List.{List}
-use lib.Dec.{leb, ltb, eqb}
+use lib.Dec.{leb, eqb}
 use lib.ListN.{length, getD}
-use Rattle.profile.specs.Limits.{weightLeast, weightMost, spanMost}
-use Rattle.account.specs.Boundaries.{every}
-use Rattle.account.specs.Stands.{Stands, Readings, neverFalling, lastLessFirst}
+use Rattle.profile.specs.Limits.{weightLeast, weightMost, isSpan}
+use Rattle.account.specs.Below.{every}
+use Rattle.account.specs.Stands.{Stands, neverFalling, lastLessFirst}
 
--- weights (n), marks and counts (n+1)
+-- weights (n), marks and counts (n+1): a boundary is the start of a gas day, a reading's count the meter's register in Wh, a cut a date at which
+-- the energy between two readings is divided
 pub record Account : Type 0 where
   pub weights : List ℕ
   pub marks : List ℕ
@@ -49,7 +50,7 @@ shown a =
 
 -- "n outside 1 to 1,096"
 abbrev pub badSpan : ℕ → Bool
-badSpan n = not (leb 1 n && leb n spanMost)
+badSpan n = not (isSpan n)
 
 -- "... or a lent length unfit": marks and counts are n+1 long
 abbrev pub unfit : Account → Bool

@@ -1,14 +1,14 @@
 -- The account's calls (Account and its calls): for each, one record that says what it answers and what every slice holds after it.
-use Prim.Native.Nat.{ℕ, suc, _+_}
+use Prim.Native.Nat.{ℕ}
 use mathlib.Core.Path.{_≡_}
-use mathlib.Core.Bool.{Bool, true, false, cond}
+use mathlib.Core.Bool.{Bool, true, false}
 use mathlib.Core.List.{List}
-use lib.Dec.{eqb}
-use lib.ListN.{length, set, replicate}
+use lib.ListN.{set}
+use Rattle.profile.specs.Rows.{ifDone, zeros}
 use Rattle.account.specs.declared.Answer.{Answer}
 use Rattle.account.specs.declared.Answer.the-variants.{Done, Unfit, Unsound, NoBoundary, AlreadyThere, OutOfOrder, TooMuch, NotThere}
 use Rattle.account.specs.Account.{Account, account, shown, markOf, goodWeights}
-use Rattle.account.specs.Table.{accountRows, openNumber, readingNumber, withdrawNumber, cutNumber, uncutNumber}
+use Rattle.account.specs.Refusals.{accountRows, openNumber, readingNumber, withdrawNumber, cutNumber, uncutNumber}
 
 -- the number that the paper gives each answer; 0 is done
 abbrev pub number : Answer → ℕ
@@ -21,13 +21,9 @@ number OutOfOrder = 8
 number TooMuch = 9
 number NotThere = 10
 
--- "A refused call changes nothing in the account": the account after a call that answers this number
-abbrev pub left : ℕ → Account → Account → Account
-left answered done before = cond (eqb answered 0) done before
-
 -- "Open clears marks and counts."
 abbrev pub cleared : Account → Account
-cleared a = account (a .weights) (replicate (length (a .marks)) 0) (replicate (length (a .counts)) 0)
+cleared a = account (a .weights) (zeros (a .marks)) (zeros (a .counts))
 
 -- "Reading sets a count; withdraw removes the reading and zeroes its count; cut and uncut set and remove a cut.
 -- A call on a boundary keeps its other mark."
@@ -43,25 +39,26 @@ cutPut a k = account (a .weights) (set (a .marks) k (markOf (shown a .readings .
 abbrev pub cutTaken : Account → ℕ → Account
 cutTaken a k = account (a .weights) (set (a .marks) k (markOf (shown a .readings .at k) false)) (a .counts)
 
+-- "A refused call changes nothing in the account."
 pub record OpenMet (before : Account) (answer : Answer) (after : Account) : Type 0 where
   pub answers : number answer ≡ openNumber before
-  pub leaves : after ≡ left (openNumber before) (cleared before) before
+  pub leaves : after ≡ ifDone (openNumber before) (cleared before) before
 
 pub record ReadingMet (before : Account) (k v : ℕ) (answer : Answer) (after : Account) : Type 0 where
   pub answers : number answer ≡ readingNumber before k v
-  pub leaves : after ≡ left (readingNumber before k v) (readingPut before k v) before
+  pub leaves : after ≡ ifDone (readingNumber before k v) (readingPut before k v) before
 
 pub record WithdrawMet (before : Account) (k : ℕ) (answer : Answer) (after : Account) : Type 0 where
   pub answers : number answer ≡ withdrawNumber before k
-  pub leaves : after ≡ left (withdrawNumber before k) (readingTaken before k) before
+  pub leaves : after ≡ ifDone (withdrawNumber before k) (readingTaken before k) before
 
 pub record CutMet (before : Account) (k : ℕ) (answer : Answer) (after : Account) : Type 0 where
   pub answers : number answer ≡ cutNumber before k
-  pub leaves : after ≡ left (cutNumber before k) (cutPut before k) before
+  pub leaves : after ≡ ifDone (cutNumber before k) (cutPut before k) before
 
 pub record UncutMet (before : Account) (k : ℕ) (answer : Answer) (after : Account) : Type 0 where
   pub answers : number answer ≡ uncutNumber before k
-  pub leaves : after ≡ left (uncutNumber before k) (cutTaken before k) before
+  pub leaves : after ≡ ifDone (uncutNumber before k) (cutTaken before k) before
 
 -- rows 3 and 5 asked alone (0: neither), and the weights asked alone
 pub record CheckMet (before : Account) (answered : ℕ) (after : Account) : Type 0 where

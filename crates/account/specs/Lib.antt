@@ -1,6 +1,6 @@
-pub mod Boundaries
+pub mod Below
 pub mod Stands
 pub mod Account
-pub mod Table
+pub mod Refusals
 pub mod Calls
 pub mod Slices

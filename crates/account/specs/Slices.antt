@@ -6,11 +6,11 @@ use mathlib.Core.List.{List}
 use lib.Dec.{ltb, eqb}
 use lib.ListN.{length, getD}
 use Rattle.profile.specs.Limits.{spanMost}
-use Rattle.account.specs.Boundaries.{first, last}
+use Rattle.account.specs.Below.{first, last}
 use Rattle.account.specs.Stands.{neverFalling}
 use Rattle.account.specs.Account.{Account, days, shown, badSpan, marksReading, goodMarks, zeroCounts}
 use Rattle.profile.specs.Rows.{row}
-use Rattle.account.specs.Table.{accountRows}
+use Rattle.account.specs.Refusals.{accountRows}
 
 -- whether these marks show a reading at k
 abbrev pub readsAt : List ℕ → ℕ → Bool

@@ -1,9 +1,9 @@
 -- What stands (Account and its calls): the readings with their counts, and the cuts, as functions of the boundary.
 -- The table and the statement's rule are written over this alone. Where no reading stands the count is 0.
 use Prim.Native.Nat.{ℕ, zero, suc, _-_}
-use mathlib.Core.Bool.{Bool, true, false, cond, _&&_, _||_}
+use mathlib.Core.Bool.{Bool, true, false, cond, _&&_}
 use lib.Dec.{leb, eqb}
-use Rattle.account.specs.Boundaries.{first, last}
+use Rattle.account.specs.Below.{some, first, last}
 
 pub record Readings : Type 0 where
   pub at : ℕ → Bool
@@ -39,8 +39,7 @@ lastReading n r = last (r .at) (suc n)
 unfoldable pub lastLessFirst : ℕ → Readings → ℕ
 lastLessFirst n r = r .count (lastReading n r) - r .count (firstReading n r)
 
--- "Readings never falling", below boundary m: each has at least what the reading before it has; the first is asked for no less than boundary
--- 0 has, which is 0 where no reading is there
+-- "Readings never falling", below boundary m: each has at least what the reading before it has, if there is one before it
 unfoldable pub neverFalling : Readings → ℕ → Bool
 neverFalling r zero = true
-neverFalling r (suc m) = neverFalling r m && cond (r .at m) (leb (r .count (last (r .at) m)) (r .count m)) true
+neverFalling r (suc m) = neverFalling r m && cond (r .at m && some (r .at) m) (leb (r .count (last (r .at) m)) (r .count m)) true

@@ -2,7 +2,7 @@
 ghost use Prim.Native.Nat.{_-_};
 ghost use mathlib.Core.Path.{_≡_};
 ghost use lib.ListN.{length, getD, replicate};
-ghost use Rattle.account.specs.Boundaries as boundaries;
+ghost use Rattle.account.specs.Below as boundaries;
 ghost use Rattle.account.specs.Account.{marksReading, marksCut};
 ghost use Rattle.account.specs.Slices.{readsAt, countAt, spread};
 

@@ -15,10 +15,10 @@ ghost use mathlib.Core.Path.{_≡_};
 ghost use mathlib.Core.Bool.{true, _&&_, _||_};
 ghost use lib.Dec.{ltb};
 ghost use lib.ListN.{length};
-ghost use Rattle.account.specs.Boundaries.{first, last};
+ghost use Rattle.account.specs.Below.{first, last};
 ghost use Rattle.account.specs.Stands.{put};
 ghost use Rattle.account.specs.Account.{account, shown, marksReading};
-ghost use Rattle.account.specs.Table.{outOfOrder, readingNumber, withdrawNumber, cutNumber, uncutNumber};
+ghost use Rattle.account.specs.Refusals.{outOfOrder, readingNumber, withdrawNumber, cutNumber, uncutNumber};
 ghost use Rattle.account.specs.Calls.{number};
 ghost use Rattle.account.specs.Slices.{Fit, boundaryRows, nextRow, readsAt, countAt, spread};
 

@@ -4,6 +4,8 @@ use libc::STDIN_FILENO;
 use libc::STDOUT_FILENO;
 use profile::Profile;
 use report::FILE_READ;
+ghost use mathlib.Core.Path.{_≡_};
+ghost use Rattle.report.specs.Report.{fileText};
 
 fn main() {
     let mut file = [0u8; FILE_READ];
@@ -19,5 +21,12 @@ fn main() {
         &mut counts,
         &mut text,
     );
-    io::write_all(STDOUT_FILENO, &text[..n]);
+    print(&file[..length], &text[..n]);
+}
+
+// Writes the text of a file, and can be handed nothing else.
+fn print(file: &[u8], text: &[u8])
+    requires { ⌜ now text ≡ fileText (now file) ⌝ }
+{
+    io::write_all(STDOUT_FILENO, text);
 }

@@ -10,9 +10,9 @@ use Rattle.profile.specs.Limits.{spanMost}
 use Rattle.account.specs.Account.{Account, account}
 use Rattle.casefile.specs.declared.CaseAnswer.the-variants.{Days, Refused}
 use Rattle.casefile.specs.declared.sections.Progress.{Progress}
-use Rattle.casefile.specs.Case.{daysOf, named}
+use Rattle.casefile.specs.Case.{daysOf, accountOf}
 use Rattle.casefile.specs.Faults.{Fault, none, faultOf}
-use Rattle.casefile.specs.Reader.{number, place, days, faultNumber, faultPlace, unfitSlices, verdict, full, zeros, ReadMet}
+use Rattle.casefile.specs.Reader.{number, place, days, faultNumber, faultPlace, unfitSlices, verdict, full, allZero, ReadMet}
 use Rattle.casefile.specs.Sections.{told, Clear, AllClear, FillMet}
 use Rattle.casefile.proofs.Faults.{clean}
 
@@ -44,7 +44,7 @@ clear-is lent {after} e l =
     let same : length after ≡ length lent = ap length e ∙ length-replicate (length lent) 0 in
     record { long = same ∙ l; zeros = rw same e }
 
-pub all-clear : {lent after : Account} → after ≡ zeros lent → Long lent → AllClear after
+pub all-clear : {lent after : Account} → after ≡ allZero lent → Long lent → AllClear after
 all-clear {lent} e l =
     record {
       weights = clear-is (lent .weights) (ap (λ (a : Account). a .weights) e) (l .weights);
@@ -61,7 +61,7 @@ told-place : (n at : ℕ) → (n ≡ 0 → ⊥) → faultPlace (told n at) ≡ a
 told-place zero at h = absurd (h refl)
 told-place (suc n) at h = refl
 
-same-zeros : {lent after : Account} → Long lent → Long after → zeros after ≡ zeros lent
+same-zeros : {lent after : Account} → Long lent → Long after → allZero after ≡ allZero lent
 same-zeros l k = λ i.
     account
     (replicate ((k .weights ∙ sym (l .weights)) i) 0)
@@ -75,14 +75,14 @@ module _ {s : List ℕ} {lent filled : Account} {p : Progress} (l : Long lent) (
   judged : verdict s lent ≡ told (p .number) (p .place)
   judged = rw (fit lent l) found
 
-  pub refused-met : (p .number ≡ 0 → ⊥) → {after : Account} → after ≡ zeros filled → Long filled → ReadMet s lent (Refused (p .number) (p .place)) after s
+  pub refused-met : (p .number ≡ 0 → ⊥) → {after : Account} → after ≡ allZero filled → Long filled → ReadMet s lent (Refused (p .number) (p .place)) after s
   refused-met h {after} e k =
       let n = ne-eqb (p .number) 0 h in
       record {
         numbers = sym (ap faultNumber judged ∙ told-number (p .number) (p .place));
         places = sym (ap faultPlace judged ∙ told-place (p .number) (p .place) h);
         returns = sym (ap (λ (x : Fault). cond (eqb (faultNumber x) 0) (daysOf s) 0) judged ∙ simp (told-number (p .number) (p .place), n));
-        fills = e ∙ same-zeros l k ∙ sym (rw (fit lent l) (ap (λ (x : Fault). cond (eqb (faultNumber x) 0) (full (named s)) (zeros lent)) found ∙ simp (told-number (p .number) (p .place), n)));
+        fills = e ∙ same-zeros l k ∙ sym (rw (fit lent l) (ap (λ (x : Fault). cond (eqb (faultNumber x) 0) (full (accountOf s)) (allZero lent)) found ∙ simp (told-number (p .number) (p .place), n)));
         keeps = refl;
       }
 
@@ -94,6 +94,6 @@ module _ {s : List ℕ} {lent filled : Account} {p : Progress} (l : Long lent) (
         numbers = sym (ap faultNumber v);
         places = sym (ap faultPlace v);
         returns = f .reached .days-are z ∙ sym (ap (λ (x : Fault). cond (eqb (faultNumber x) 0) (daysOf s) 0) v);
-        fills = f .fills z ∙ sym (rw (fit lent l) (ap (λ (x : Fault). cond (eqb (faultNumber x) 0) (full (named s)) (zeros lent)) e));
+        fills = f .fills z ∙ sym (rw (fit lent l) (ap (λ (x : Fault). cond (eqb (faultNumber x) 0) (full (accountOf s)) (allZero lent)) e));
         keeps = refl;
       }

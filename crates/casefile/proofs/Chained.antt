@@ -7,12 +7,12 @@ use borrow.Author.Tests.{lt-ltb, le-ltb, ltb-false}
 use lib.Dec.{lit<, ltb}
 use lib.ListN.{length, replicate, length-replicate, replicate-append-replicate}
 use Rattle.profile.specs.Limits.{spanMost}
-use Rattle.account.specs.Account.{account, badSpan}
+use Rattle.account.specs.Account.{account}
 use Rattle.casefile.specs.declared.sections.Progress.{Progress}
 use Rattle.casefile.specs.Bytes.{number16}
-use Rattle.casefile.specs.Case.{profileOf, weekdayOf, daysOf, readingsPlace, readingCount, readingPlace, cutsPlace, cutCount, endOf}
-use Rattle.casefile.specs.Faults.{Fault, none, refused, _before_, fault, firstFault, early, readingFault, cutFault, faultOf, headFault, meansFault, readingsFault, cutsFault}
-use Rattle.casefile.specs.Reader.{filled}
+use Rattle.casefile.specs.Case.{daysOf, readingsOffset, readingsLength, readingOffset, cutsOffset, cutsLength, endOf}
+use Rattle.casefile.specs.Faults.{Fault, none, _before_, fault, firstFault, readingFault, cutFault, faultOf, headFault, meansFault, readingsFault, cutsFault}
+use Rattle.profile.specs.Rows.{filled}
 use Rattle.casefile.specs.Sections.{spanFault, filedFault, Reached, Clear, ReadingsAsked, ReadingsFrom, Filed, CutsAsked, CutsFrom, Closed, told, SpanMet, FillMet}
 use Rattle.casefile.proofs.Faults.{before-assoc, met, stops, passes, none-both, none-before, clean, stays, joins}
 use Rattle.casefile.proofs.Filed.{cuts-kept, cuts-counts}
@@ -20,7 +20,7 @@ use Rattle.casefile.proofs.Items.{sane}
 use Rattle.casefile.proofs.Weighing.{GoodSpan, head-none}
 
 pub span-none : (s : List ℕ) → spanFault s ≡ none → GoodSpan (daysOf s)
-span-none s e = head-none s 0 (none-both (headFault s 0) (meansFault s) e .0) .span
+span-none s e = head-none s (none-both (headFault s) (meansFault s) e .0) .span
 
 -- zeros, filled up with zeros
 clear-filled : {m : ℕ} {lent : List ℕ} (n : ℕ) → Clear m lent → n ≤ m → lent ≡ filled m (replicate n 0)
@@ -33,19 +33,19 @@ module _ {s : List ℕ} {at : ℕ} {so-far : Progress} {marks counts : List ℕ}
   readings-unread h = record { reached = stays (readingsFault s) (a .reached) h; marks-are = λ z. absurd (h z); counts-are = λ z. absurd (h z) }
 
   module _ (z : so-far .number ≡ 0) where
-    pub readings-place : at ≡ readingsPlace s
-    readings-place = a .follows ∙ a .reached .stands z
+    pub readings-offset : at ≡ readingsOffset s
+    readings-offset = a .follows ∙ a .reached .stands z
 
     span : GoodSpan (daysOf s)
     span = span-none s (clean (a .reached) z)
 
     pub readings-near : at ≤ 2202
-    readings-near = omega (arith, readings-place, span .least, span .most)
+    readings-near = omega (arith, readings-offset, span .least, span .most)
 
     pub readings-early : {p : Progress} {m c : List ℕ} → p ≡ record { number = 13; place = length s; days = 0; next = 0 } → length s < at + 2 → Filed s (filedFault s) p m c
     readings-early e l =
         record {
-          reached = joins (a .reached) z (stops (lit< tt) e (simp (lt-ltb (length s) (readingsPlace s + 2) (rw readings-place at l))));
+          reached = joins (a .reached) z (stops (lit< tt) e (simp (lt-ltb (length s) (readingsOffset s + 2) (rw readings-offset at l))));
           marks-are = λ y. absurd (met (lit< tt) e y);
           counts-are = λ y. absurd (met (lit< tt) e y);
         }
@@ -56,8 +56,8 @@ module _ {s : List ℕ} {at : ℕ} {so-far : Progress} {marks counts : List ℕ}
           let d = a .reached .days-are z in
           let n = span .most in
           record {
-            starts = omega (arith, readings-place);
-            counted = rw readings-place at e;
+            starts = omega (arith, readings-offset);
+            counted = rw readings-offset at e;
             days-are = d;
             few = h;
             near = l;
@@ -68,10 +68,10 @@ module _ {s : List ℕ} {at : ℕ} {so-far : Progress} {marks counts : List ℕ}
             counts-long = a .counts-clear .long;
           }
 
-      pub readings-read : {p : Progress} {m c : List ℕ} → Filed s (firstFault (readingFault s) (readingCount s)) p m c → Filed s (filedFault s) p m c
+      pub readings-read : {p : Progress} {m c : List ℕ} → Filed s (firstFault (readingFault s) (readingsLength s)) p m c → Filed s (filedFault s) p m c
       readings-read r =
           record {
-            reached = joins (a .reached) z (rw (le-ltb (length s) (readingsPlace s + 2) (rw readings-place at l)) (r .reached));
+            reached = joins (a .reached) z (rw (le-ltb (length s) (readingsOffset s + 2) (rw readings-offset at l)) (r .reached));
             marks-are = r .marks-are;
             counts-are = r .counts-are;
           }
@@ -79,18 +79,18 @@ module _ {s : List ℕ} {at : ℕ} {so-far : Progress} {marks counts : List ℕ}
 -- the faults of the sections, one after the other, are the file's
 pub in-order : (s : List ℕ) → (filedFault s before cutsFault s) ≡ faultOf s
 in-order s =
-    before-assoc (spanFault s) (readingsFault s) (cutsFault s) ∙ before-assoc (headFault s 0) (meansFault s) (readingsFault s before cutsFault s)
+    before-assoc (spanFault s) (readingsFault s) (cutsFault s) ∙ before-assoc (headFault s) (meansFault s) (readingsFault s before cutsFault s)
 
 -- readings without a fault end within the file
-readings-end : (s : List ℕ) (i : ℕ) → readingPlace s 0 ≤ length s → firstFault (readingFault s) i ≡ none → readingPlace s i ≤ length s
+readings-end : (s : List ℕ) (i : ℕ) → readingOffset s 0 ≤ length s → firstFault (readingFault s) i ≡ none → readingOffset s i ≤ length s
 readings-end s zero l e = l
 readings-end s (suc i) l e = omega (arith, sane s i (none-before (readingFault s) (suc i) i (omega arith) e) .long)
 
-pub cuts-start : (s : List ℕ) → filedFault s ≡ none → cutsPlace s ≤ length s
+pub cuts-start : (s : List ℕ) → filedFault s ≡ none → cutsOffset s ≤ length s
 cuts-start s e =
-    let r = passes (ltb (length s) (readingsPlace s + 2)) 13 (length s) _ (none-both (spanFault s) (readingsFault s) e .1) in
-    let l = ltb-false (length s) (readingsPlace s + 2) (r .0) in
-    readings-end s (readingCount s) (omega arith) (r .1)
+    let r = passes (ltb (length s) (readingsOffset s + 2)) 13 (length s) _ (none-both (spanFault s) (readingsFault s) e .1) in
+    let l = ltb-false (length s) (readingsOffset s + 2) (r .0) in
+    readings-end s (readingsLength s) (omega arith) (r .1)
 
 module _ {s : List ℕ} {at : ℕ} {so-far : Progress} {marks : List ℕ} (a : CutsFrom s at so-far marks) where
   -- what the cuts' section has, the file has
@@ -101,16 +101,16 @@ module _ {s : List ℕ} {at : ℕ} {so-far : Progress} {marks : List ℕ} (a : C
   cuts-unread h = record { reached = whole (stays (cutsFault s) (a .reached) h); marks-are = λ z. absurd (h z) }
 
   module _ (z : so-far .number ≡ 0) where
-    cuts-place : at ≡ cutsPlace s
-    cuts-place = a .follows ∙ a .reached .stands z
+    cuts-offset : at ≡ cutsOffset s
+    cuts-offset = a .follows ∙ a .reached .stands z
 
     pub cuts-near : at ≤ length s
-    cuts-near = rw cuts-place (cuts-start s (clean (a .reached) z))
+    cuts-near = rw cuts-offset (cuts-start s (clean (a .reached) z))
 
     pub cuts-early : {p : Progress} {m : List ℕ} → p ≡ record { number = 13; place = length s; days = 0; next = 0 } → length s < at + 2 → Closed s (faultOf s) p m
     cuts-early e l =
         record {
-          reached = whole (joins (a .reached) z (stops (lit< tt) e (simp (lt-ltb (length s) (cutsPlace s + 2) (rw cuts-place at l)))));
+          reached = whole (joins (a .reached) z (stops (lit< tt) e (simp (lt-ltb (length s) (cutsOffset s + 2) (rw cuts-offset at l)))));
           marks-are = λ y. absurd (met (lit< tt) e y);
         }
 
@@ -119,8 +119,8 @@ module _ {s : List ℕ} {at : ℕ} {so-far : Progress} {marks : List ℕ} (a : C
       cuts-asked e h =
           let d = a .reached .days-are z in
           record {
-            starts = omega (arith, cuts-place);
-            counted = rw cuts-place at e;
+            starts = omega (arith, cuts-offset);
+            counted = rw cuts-offset at e;
             days-are = d;
             few = h;
             near = l;
@@ -129,10 +129,10 @@ module _ {s : List ℕ} {at : ℕ} {so-far : Progress} {marks : List ℕ} (a : C
             marks-long = a .marks-long;
           }
 
-      module _ {p : Progress} {m : List ℕ} (r : Closed s (firstFault (cutFault s) (cutCount s)) p m) where
+      module _ {p : Progress} {m : List ℕ} (r : Closed s (firstFault (cutFault s) (cutsLength s)) p m) where
         -- the cuts' section, from the faults of its items on
-        within : {q : Progress} → Reached (firstFault (cutFault s) (cutCount s) before fault (ltb (endOf s) (length s)) 13 (endOf s)) (daysOf s) (endOf s) q → Reached (faultOf s) (daysOf s) (endOf s) q
-        within x = whole (joins (a .reached) z (rw (le-ltb (length s) (cutsPlace s + 2) (rw cuts-place at l)) x))
+        within : {q : Progress} → Reached (firstFault (cutFault s) (cutsLength s) before fault (ltb (endOf s) (length s)) 13 (endOf s)) (daysOf s) (endOf s) q → Reached (faultOf s) (daysOf s) (endOf s) q
+        within x = whole (joins (a .reached) z (rw (le-ltb (length s) (cutsOffset s + 2) (rw cuts-offset at l)) x))
 
         pub cuts-fault : (p .number ≡ 0 → ⊥) → Closed s (faultOf s) p m
         cuts-fault h = record { reached = within (stays _ (r .reached) h); marks-are = λ y. absurd (h y) }
@@ -172,9 +172,9 @@ filled-case {s} a b c =
           let e = none-both (filedFault s) (cutsFault s) (in-order s ∙ clean (c .reached) z) .0 in
           let filed = unfaulted (b .reached) e in
           let span = unfaulted (a .reached) (none-both (spanFault s) (readingsFault s) e .0) in
-          let k = cuts-kept s (cutCount s) in
+          let k = cuts-kept s (cutsLength s) in
           λ i. account
           ((a .weighed span ∙ ap (filled spanMost) (sym (k .weights-are))) i)
           (c .marks-are z i)
-          ((b .counts-are filed ∙ ap (filled (spanMost + 1)) (sym (cuts-counts s (cutCount s)))) i);
+          ((b .counts-are filed ∙ ap (filled (spanMost + 1)) (sym (cuts-counts s (cutsLength s)))) i);
     }

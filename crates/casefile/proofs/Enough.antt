@@ -9,11 +9,11 @@ use borrow.Author.Tests.{le-ltb, lt-ltb}
 use lib.Dec.{ltb, leb}
 use lib.ListN.{length, getD, take}
 use lib.Seq.{getD-take, length-take-le, take-all}
-use Rattle.profile.specs.Limits.{inRange, spanMost}
-use Rattle.account.specs.Boundaries.{some}
+use Rattle.profile.specs.Limits.{profileCount, inRange, spanMost}
+use Rattle.account.specs.Below.{some}
 use Rattle.account.specs.Account.{badSpan, energyMost}
 use Rattle.casefile.specs.Bytes.{little, number16, number64, signed}
-use Rattle.casefile.specs.Case.{meanCount, meanPlace, daysOf, readingsPlace, readingCount, readingPlace, readingBoundary, readingValue, cutsPlace, cutCount, cutPlace, cutBoundary, endOf}
+use Rattle.casefile.specs.Case.{meansLength, meanOffset, daysOf, readingsOffset, readingsLength, readingOffset, readingBoundary, readingCount, cutsOffset, cutsLength, cutOffset, cutBoundary, endOf}
 use Rattle.casefile.specs.Faults.{Fault, none, refused, _before_, fault, firstFault, early, falls, meanFault, readingFault, cutFault, faultOf, headFault, meansFault, readingsFault, cutsFault}
 use Rattle.casefile.specs.Sections.{spanFault, filedFault}
 use Rattle.casefile.specs.Length.{fileMost, bytesRead, EnoughBytes}
@@ -89,113 +89,113 @@ module _ {s t : List ℕ} (a : Alike s t) where
   whole : (x y : ℕ) → x ≤ bytesRead → y ≤ bytesRead → early s x ≡ early t y
   whole x y l h = simp (le-ltb (length s) x (omega (arith, a .long)), le-ltb (length t) y (omega (arith, a .long-too)))
 
-  head-same : headFault s 0 ≡ headFault t 0
+  head-same : headFault s ≡ headFault t
   head-same = λ k.
       whole 1 1 (omega arith) (omega arith) k before
-      fault (ltb 9 (a .same 0 (omega arith) k)) 1 0 before
+      fault (leb profileCount (a .same 0 (omega arith) k)) 1 0 before
       whole 2 2 (omega arith) (omega arith) k before
       fault (ltb 6 (a .same 1 (omega arith) k)) 2 1 before
       whole 4 4 (omega arith) (omega arith) k before
       fault (badSpan (number 2 2 (omega arith) k - 3)) 3 2
 
-  means-counted : meanCount s ≡ meanCount t
+  means-counted : meansLength s ≡ meansLength t
   means-counted = number 2 2 (omega arith)
 
-  module _ (h : headFault s 0 ≡ none) where
+  module _ (h : headFault s ≡ none) where
     span : daysOf s ≤ spanMost
-    span = head-none s 0 h .span .most
+    span = head-none s h .span .most
 
-    mean-same : (i : ℕ) → i < meanCount s → meanFault s i ≡ meanFault t i
+    mean-same : (i : ℕ) → i < meansLength s → meanFault s i ≡ meanFault t i
     mean-same i l = λ k.
-        whole (meanPlace i + 2) (meanPlace i + 2) (omega (arith, span)) (omega (arith, span)) k before
-        fault (not (inRange (signed (number 2 (meanPlace i) (omega (arith, span)) k)))) 4 (meanPlace i)
+        whole (meanOffset i + 2) (meanOffset i + 2) (omega (arith, span)) (omega (arith, span)) k before
+        fault (not (inRange (signed (number 2 (meanOffset i) (omega (arith, span)) k)))) 4 (meanOffset i)
 
     means-same : meansFault s ≡ meansFault t
-    means-same = first-same (meanFault s) (meanFault t) (meanCount s) mean-same ∙ ap (firstFault (meanFault t)) means-counted
+    means-same = first-same (meanFault s) (meanFault t) (meansLength s) mean-same ∙ ap (firstFault (meanFault t)) means-counted
 
     -- the readings, up to the one that cannot rise within the span
-    place : (i : ℕ) → readingPlace s i ≡ readingPlace t i
-    place i = ap (λ (m : ℕ). meanPlace m + 2 + 10 * i) means-counted
+    offset : (i : ℕ) → readingOffset s i ≡ readingOffset t i
+    offset i = ap (λ (m : ℕ). meanOffset m + 2 + 10 * i) means-counted
 
     boundary : (i : ℕ) → i < spanMost + 2 → readingBoundary s i ≡ readingBoundary t i
-    boundary i l = number 2 (readingPlace s i) (omega (arith, span)) ∙ ap (number16 t) (place i)
+    boundary i l = number 2 (readingOffset s i) (omega (arith, span)) ∙ ap (number16 t) (offset i)
 
-    value : (i : ℕ) → i < spanMost + 2 → readingValue s i ≡ readingValue t i
-    value i l = number 8 (readingPlace s i + 2) (omega (arith, span)) ∙ ap (λ (p : ℕ). number64 t (p + 2)) (place i)
+    count : (i : ℕ) → i < spanMost + 2 → readingCount s i ≡ readingCount t i
+    count i l = number 8 (readingOffset s i + 2) (omega (arith, span)) ∙ ap (λ (p : ℕ). number64 t (p + 2)) (offset i)
 
     reading-same : (i : ℕ) → i < spanMost + 2 → readingFault s i ≡ readingFault t i
     reading-same i l = λ k.
-        whole (readingPlace s i + 10) (readingPlace t i + 10) (omega (arith, span)) (omega (arith, span, place i)) k before
-        fault (falls-same (readingBoundary s) (readingBoundary t) i (λ j g. boundary j (omega arith)) k) 13 (place i k) before
-        fault (ltb (means-counted k - 3) (boundary i l k)) 6 (place i k) before
-        fault (some-same (λ j. ltb (readingValue s i) (readingValue s j)) (λ j. ltb (readingValue t i) (readingValue t j)) i (λ j g n. ltb (value i l n) (value j (omega arith) n)) k) 8 (place i k + 2) before
-        fault (ltb energyMost (value i l k - value 0 (omega arith) k)) 9 (place i k + 2)
+        whole (readingOffset s i + 10) (readingOffset t i + 10) (omega (arith, span)) (omega (arith, span, offset i)) k before
+        fault (falls-same (readingBoundary s) (readingBoundary t) i (λ j g. boundary j (omega arith)) k) 13 (offset i k) before
+        fault (ltb (means-counted k - 3) (boundary i l k)) 6 (offset i k) before
+        fault (some-same (λ j. ltb (readingCount s i) (readingCount s j)) (λ j. ltb (readingCount t i) (readingCount t j)) i (λ j g n. ltb (count i l n) (count j (omega arith) n)) k) 8 (offset i k + 2) before
+        fault (ltb energyMost (count i l k - count 0 (omega arith) k)) 9 (offset i k + 2)
 
-    readings-counted : readingCount s ≡ readingCount t
-    readings-counted = number 2 (readingsPlace s) (omega (arith, span)) ∙ ap (λ (m : ℕ). number16 t (meanPlace m)) means-counted
+    readings-counted : readingsLength s ≡ readingsLength t
+    readings-counted = number 2 (readingsOffset s) (omega (arith, span)) ∙ ap (λ (m : ℕ). number16 t (meanOffset m)) means-counted
 
     readings-same : readingsFault s ≡ readingsFault t
     readings-same =
-        let items = within-same (readingFault s) (readingFault t) (spanMost + 2) (readingCount s) reading-same (λ z. omega (arith, span, few-readings s (spanMost + 2) z)) in
+        let items = within-same (readingFault s) (readingFault t) (spanMost + 2) (readingsLength s) reading-same (λ z. omega (arith, span, few-readings s (spanMost + 2) z)) in
         λ k.
-        whole (readingsPlace s + 2) (readingsPlace t + 2) (omega (arith, span)) (omega (arith, span, means-counted)) k before
+        whole (readingsOffset s + 2) (readingsOffset t + 2) (omega (arith, span)) (omega (arith, span, means-counted)) k before
         (items ∙ ap (firstFault (readingFault t)) readings-counted) k
 
     module _ (r : readingsFault s ≡ none) where
-      few : readingCount s ≤ 1097
-      few = omega (arith, span, few-readings s (readingCount s) (passes (ltb (length s) (readingsPlace s + 2)) 13 (length s) _ r .1))
+      few : readingsLength s ≤ 1097
+      few = omega (arith, span, few-readings s (readingsLength s) (passes (ltb (length s) (readingsOffset s + 2)) 13 (length s) _ r .1))
 
       -- the cuts, likewise
-      cuts-placed : cutsPlace s ≡ cutsPlace t
-      cuts-placed = place (readingCount s) ∙ ap (readingPlace t) readings-counted
+      cuts-offset : cutsOffset s ≡ cutsOffset t
+      cuts-offset = offset (readingsLength s) ∙ ap (readingOffset t) readings-counted
 
-      near : cutsPlace s ≤ 13174
+      near : cutsOffset s ≤ 13174
       near = omega (arith, span, few)
 
-      cut-place : (i : ℕ) → cutPlace s i ≡ cutPlace t i
-      cut-place i = ap (λ (p : ℕ). p + 2 + 2 * i) cuts-placed
+      cut-offset : (i : ℕ) → cutOffset s i ≡ cutOffset t i
+      cut-offset i = ap (λ (p : ℕ). p + 2 + 2 * i) cuts-offset
 
       cut-boundary : (i : ℕ) → i < spanMost + 2 → cutBoundary s i ≡ cutBoundary t i
-      cut-boundary i l = number 2 (cutPlace s i) (omega (arith, near)) ∙ ap (number16 t) (cut-place i)
+      cut-boundary i l = number 2 (cutOffset s i) (omega (arith, near)) ∙ ap (number16 t) (cut-offset i)
 
       cut-same : (i : ℕ) → i < spanMost + 2 → cutFault s i ≡ cutFault t i
       cut-same i l = λ k.
-          whole (cutPlace s i + 2) (cutPlace t i + 2) (omega (arith, near)) (omega (arith, near, cuts-placed)) k before
-          fault (falls-same (cutBoundary s) (cutBoundary t) i (λ j g. cut-boundary j (omega arith)) k) 13 (cut-place i k) before
-          fault (ltb (means-counted k - 3) (cut-boundary i l k)) 6 (cut-place i k)
+          whole (cutOffset s i + 2) (cutOffset t i + 2) (omega (arith, near)) (omega (arith, near, cuts-offset)) k before
+          fault (falls-same (cutBoundary s) (cutBoundary t) i (λ j g. cut-boundary j (omega arith)) k) 13 (cut-offset i k) before
+          fault (ltb (means-counted k - 3) (cut-boundary i l k)) 6 (cut-offset i k)
 
-      cuts-counted : cutCount s ≡ cutCount t
-      cuts-counted = number 2 (cutsPlace s) (omega (arith, near)) ∙ ap (number16 t) cuts-placed
+      cuts-counted : cutsLength s ≡ cutsLength t
+      cuts-counted = number 2 (cutsOffset s) (omega (arith, near)) ∙ ap (number16 t) cuts-offset
 
-      cut-items : firstFault (cutFault s) (cutCount s) ≡ firstFault (cutFault t) (cutCount t)
+      cut-items : firstFault (cutFault s) (cutsLength s) ≡ firstFault (cutFault t) (cutsLength t)
       cut-items =
-          within-same (cutFault s) (cutFault t) (spanMost + 2) (cutCount s) cut-same (λ z. omega (arith, span, few-cuts s (spanMost + 2) z)) ∙
+          within-same (cutFault s) (cutFault t) (spanMost + 2) (cutsLength s) cut-same (λ z. omega (arith, span, few-cuts s (spanMost + 2) z)) ∙
           ap (firstFault (cutFault t)) cuts-counted
 
-      -- both have bytes left after the last cut, at the same place
+      -- both have bytes left after the last cut, at the same offset
       ends : endOf s ≡ endOf t
-      ends = cut-place (cutCount s) ∙ ap (cutPlace t) cuts-counted
+      ends = cut-offset (cutsLength s) ∙ ap (cutOffset t) cuts-counted
 
-      left-over : firstFault (cutFault s) (cutCount s) ≡ none → fault (ltb (endOf s) (length s)) 13 (endOf s) ≡ fault (ltb (endOf t) (length t)) 13 (endOf t)
+      left-over : firstFault (cutFault s) (cutsLength s) ≡ none → fault (ltb (endOf s) (length s)) 13 (endOf s) ≡ fault (ltb (endOf t) (length t)) 13 (endOf t)
       left-over z =
-          let end : endOf s ≤ fileMost = omega (arith, near, span, few-cuts s (cutCount s) z) in
+          let end : endOf s ≤ fileMost = omega (arith, near, span, few-cuts s (cutsLength s) z) in
           let both = lt-ltb (endOf s) (length s) (omega (arith, a .long)) ∙ sym (lt-ltb (endOf t) (length t) (omega (arith, a .long-too, ends))) in
           λ k. fault (both k) 13 (ends k)
 
       cuts-same : cutsFault s ≡ cutsFault t
       cuts-same =
-          both-same (early s (cutsPlace s + 2)) _ (whole (cutsPlace s + 2) (cutsPlace t + 2) (omega (arith, near)) (omega (arith, near, cuts-placed)))
-          (λ _. both-same (firstFault (cutFault s) (cutCount s)) _ cut-items left-over)
+          both-same (early s (cutsOffset s + 2)) _ (whole (cutsOffset s + 2) (cutsOffset t + 2) (omega (arith, near)) (omega (arith, near, cuts-offset)))
+          (λ _. both-same (firstFault (cutFault s) (cutsLength s)) _ cut-items left-over)
 
   fault-same : faultOf s ≡ faultOf t
   fault-same =
-      let span-same = both-same (headFault s 0) (meansFault s) head-same means-same in
-      let filed-same = both-same (spanFault s) (readingsFault s) span-same (λ e. readings-same (none-both (headFault s 0) (meansFault s) e .0)) in
+      let span-same = both-same (headFault s) (meansFault s) head-same means-same in
+      let filed-same = both-same (spanFault s) (readingsFault s) span-same (λ e. readings-same (none-both (headFault s) (meansFault s) e .0)) in
       sym (in-order s) ∙
       both-same (filedFault s) (cutsFault s) filed-same
       (λ e.
       let f = none-both (spanFault s) (readingsFault s) e in
-      cuts-same (none-both (headFault s 0) (meansFault s) (f .0) .0) (f .1)) ∙
+      cuts-same (none-both (headFault s) (meansFault s) (f .0) .0) (f .1)) ∙
       in-order t
 
 pub enough : EnoughBytes

@@ -5,8 +5,10 @@ use mathlib.Core.Bool.{Bool, true, false}
 use native.Mathlib.Omega.{arith}
 use native.Mathlib.Numerals.{add-one}
 use native.Mathlib.Decide.{decLt}
+use Rattle.profile.specs.Rows.{row}
 use Rattle.casefile.specs.declared.sections.Progress.{Progress}
 use Rattle.casefile.specs.Faults.{Fault, none, refused, _before_, fault, firstFault}
+use Rattle.casefile.specs.Reader.{faultNumber}
 use Rattle.casefile.specs.Sections.{told, Reached}
 
 pub before-assoc : (f g h : Fault) → ((f before g) before h) ≡ (f before (g before h))
@@ -47,6 +49,11 @@ first-is f (suc m) i {number} {place} l n e = go (first-is f m i) (decLt i m)
         rw (same, n) e
 
 -- no fault in any of them
+pub none-of : (f : ℕ → Fault) (m : ℕ) → ((i : ℕ) → i < m → f i ≡ none) → firstFault f m ≡ none
+unfolding firstFault
+none-of f zero e = refl
+none-of f (suc m) e = rw (none-of f m (λ i l. e i (omega arith)), e m (omega arith)) refl
+
 pub none-both : (f g : Fault) → (f before g) ≡ none → (f ≡ none) × (g ≡ none)
 none-both none g e = (refl, e)
 none-both (refused n k) g e = absurd (let z : _≡_ {A = ℕ} 0 1 = cc in omega arith)
@@ -54,6 +61,15 @@ none-both (refused n k) g e = absurd (let z : _≡_ {A = ℕ} 0 1 = cc in omega 
 pub no-fault : (b : Bool) (number place : ℕ) → fault b number place ≡ none → b ≡ false
 no-fault false number place e = refl
 no-fault true number place e = absurd (let z : _≡_ {A = ℕ} 0 1 = cc in omega arith)
+
+-- the number of a condition, and of what comes after it, is a row
+pub number-of : (b : Bool) (number place : ℕ) → faultNumber (fault b number place) ≡ row b number 0
+number-of true number place = refl
+number-of false number place = refl
+
+pub number-before : (b : Bool) (number place : ℕ) (g : Fault) → faultNumber (fault b number place before g) ≡ row b number (faultNumber g)
+number-before true number place g = refl
+number-before false number place g = refl
 
 -- a condition that does not hold, and what comes after it
 pub passes : (b : Bool) (number place : ℕ) (g : Fault) → (fault b number place before g) ≡ none → (b ≡ false) × (g ≡ none)

@@ -9,8 +9,8 @@ use lib.ListN.{length, getD, set, replicate, length-set, length-replicate, List�
 use lib.Seq.{set-append-left, set-out, getD-set-same, getD-set-other}
 use Rattle.account.specs.Account.{Account, marksCut, markOf}
 use Rattle.account.proofs.Shows.{zeros}
-use Rattle.casefile.specs.Case.{daysOf, readingBoundary, readingCount, emptyCase, withReadings, withCuts}
-use Rattle.casefile.specs.Reader.{filled}
+use Rattle.casefile.specs.Case.{daysOf, readingBoundary, readingsLength, emptyCase, withReadings, withCuts}
+use Rattle.profile.specs.Rows.{filled}
 
 -- a store inside a list is the same store in the list filled up with zeros
 pub filled-set : (n k x : ℕ) (xs : List ℕ) → k < length xs → set (filled n xs) k x ≡ filled n (set xs k x)
@@ -34,13 +34,13 @@ readings-kept s (suc i) =
 
 pub cuts-kept : (s : List ℕ) (i : ℕ) → Kept s (withCuts s i)
 unfolding withCuts
-cuts-kept s zero = readings-kept s (readingCount s)
+cuts-kept s zero = readings-kept s (readingsLength s)
 cuts-kept s (suc i) =
     let k = cuts-kept s i in
     record { weights-are = k .weights-are; marks-long = rw length-set (k .marks-long); counts-long = k .counts-long }
 
 -- cuts leave the counts as the readings have them
-pub cuts-counts : (s : List ℕ) (i : ℕ) → withCuts s i .counts ≡ withReadings s (readingCount s) .counts
+pub cuts-counts : (s : List ℕ) (i : ℕ) → withCuts s i .counts ≡ withReadings s (readingsLength s) .counts
 unfolding withCuts
 cuts-counts s zero = refl
 cuts-counts s (suc i) = cuts-counts s i

@@ -1,6 +1,6 @@
 -- Readings one after the other (Case file): what the reader tests of a reading is the definition's fault, and what it stores is the
 -- definition's account. Assumes nothing.
-use Prim.Native.Nat.{ℕ, zero, suc, _+_, _-_, _≤_, _<_}
+use Prim.Native.Nat.{ℕ, zero, suc, _+_, _≤_, _<_}
 use mathlib.Core.Path.{_≡_, refl, sym, _∙_, ap}
 use native.Mathlib.Omega.{arith}
 use mathlib.Core.List.{List}
@@ -11,14 +11,13 @@ use lib.Dec.{ltb, leb}
 use lib.ListN.{length, set}
 use native.Mathlib.Numerals.{add-one}
 use native.Mathlib.Nat.{le-refl}
-use Rattle.account.specs.Boundaries.{some}
-use Rattle.account.specs.Account.{energyMost}
-use Rattle.casefile.specs.Case.{daysOf, readingPlace, readingBoundary, readingValue, emptyCase, withReadings}
+use Rattle.account.specs.Below.{some}
+use Rattle.casefile.specs.Case.{daysOf, readingOffset, readingBoundary, readingCount, emptyCase, withReadings}
 use Rattle.casefile.specs.Faults.{none, firstFault, falls, readingFault}
 use Rattle.casefile.specs.Reader.{full}
 use Rattle.casefile.specs.declared.readings.Reading.{Reading}
 use Rattle.casefile.specs.Sections.{told, countFault, itemFault, CountedMet, ItemMet}
-use Rattle.casefile.proofs.Faults.{first-more, passes, no-fault}
+use Rattle.casefile.proofs.Faults.{first-more, passes}
 use Rattle.casefile.proofs.Filed.{filled-set, readings-kept, uncut}
 
 pub stored : {number place : ℕ} {r : Reading} → 0 < number → r ≡ record { number = number; place = place; boundary = 0; count = 0 } → r .number ≡ 0 → ⊥
@@ -51,13 +50,13 @@ rises boundary (suc i) = go (decLt (boundary i) (boundary (suc i)))
     go (no n) = lt-ltb (boundary (suc i)) (boundary i + 1) (omega arith) ∙ sym (le-leb (boundary (suc i)) (boundary i) (omega arith))
 
 -- where counts have not fallen, some earlier count is above this one if the last is
-some-above : (count : ℕ → ℕ) (v last i : ℕ) → ((j : ℕ) → j < i → count j ≤ last) → last ≤ v → some (λ j. ltb v (count j)) i ≡ false
+pub some-above : (count : ℕ → ℕ) (v last i : ℕ) → ((j : ℕ) → j < i → count j ≤ last) → last ≤ v → some (λ j. ltb v (count j)) i ≡ false
 unfolding some
 some-above count v last zero top l = refl
 some-above count v last (suc i) top l =
     rw (some-above count v last i (λ j h. top j (omega arith)) l, le-ltb v (count i) (omega (arith, top i (omega arith)))) refl
 
-falling : (count : ℕ → ℕ) (v i : ℕ) → ((j : ℕ) → j < i → count j ≤ before count i) → (i ≡ 0 → v ≡ count 0) → some (λ j. ltb v (count j)) i ≡ ltb v (before count i)
+pub falling : (count : ℕ → ℕ) (v i : ℕ) → ((j : ℕ) → j < i → count j ≤ before count i) → (i ≡ 0 → v ≡ count 0) → some (λ j. ltb v (count j)) i ≡ ltb v (before count i)
 unfolding some
 falling count v zero top e = sym (le-ltb v (count 0) (omega (arith, e refl)))
 falling count v (suc i) top e = go (decLt v (count i))
@@ -70,62 +69,60 @@ falling count v (suc i) top e = go (decLt v (count i))
 pub record ReadingsRead (s marks counts : List ℕ) (low last i : ℕ) : Type 0 where
   pub clean : firstFault (readingFault s) i ≡ none
   pub low-is : low ≡ above (readingBoundary s) i
-  pub last-is : readingPlace s 0 + 10 ≤ length s → last ≡ before (readingValue s) i
-  pub top : (j : ℕ) → j < i → readingValue s j ≤ last
+  pub last-is : readingOffset s 0 + 10 ≤ length s → last ≡ before (readingCount s) i
+  pub top : (j : ℕ) → j < i → readingCount s j ≤ last
   pub marks-are : marks ≡ full (withReadings s i) .marks
   pub counts-are : counts ≡ full (withReadings s i) .counts
 
 -- the facts of a reading without a fault
 pub record Sane (s : List ℕ) (i : ℕ) : Type 0 where
-  pub long : readingPlace s i + 10 ≤ length s
+  pub long : readingOffset s i + 10 ≤ length s
   pub rising : falls (readingBoundary s) i ≡ false
   pub inside : readingBoundary s i ≤ daysOf s
-  pub ordered : some (λ j. ltb (readingValue s i) (readingValue s j)) i ≡ false
-  pub small : readingValue s i - readingValue s 0 ≤ energyMost
+  pub ordered : some (λ j. ltb (readingCount s i) (readingCount s j)) i ≡ false
 
 pub sane : (s : List ℕ) (i : ℕ) → readingFault s i ≡ none → Sane s i
 sane s i e =
-    let f1 = passes (ltb (length s) (readingPlace s i + 10)) 13 (length s) _ e in
-    let f2 = passes (falls (readingBoundary s) i) 13 (readingPlace s i) _ (f1 .1) in
-    let f3 = passes (ltb (daysOf s) (readingBoundary s i)) 6 (readingPlace s i) _ (f2 .1) in
-    let f4 = passes (some (λ j. ltb (readingValue s i) (readingValue s j)) i) 8 (readingPlace s i + 2) _ (f3 .1) in
+    let f1 = passes (ltb (length s) (readingOffset s i + 10)) 13 (length s) _ e in
+    let f2 = passes (falls (readingBoundary s) i) 13 (readingOffset s i) _ (f1 .1) in
+    let f3 = passes (ltb (daysOf s) (readingBoundary s i)) 6 (readingOffset s i) _ (f2 .1) in
+    let f4 = passes (some (λ j. ltb (readingCount s i) (readingCount s j)) i) 8 (readingOffset s i + 2) _ (f3 .1) in
     record {
       long = ltb-false _ _ (f1 .0);
       rising = f2 .0;
       inside = ltb-false _ _ (f3 .0);
       ordered = f4 .0;
-      small = ltb-false _ _ (no-fault (ltb energyMost (readingValue s i - readingValue s 0)) 9 (readingPlace s i + 2) (f4 .1));
     }
 
 module _ {s marks counts : List ℕ} {low last i : ℕ} (r : ReadingsRead s marks counts low last i) where
-  above-all : readingPlace s i + 10 ≤ length s → some (λ j. ltb (readingValue s i) (readingValue s j)) i ≡ ltb (readingValue s i) last
+  above-all : readingOffset s i + 10 ≤ length s → some (λ j. ltb (readingCount s i) (readingCount s j)) i ≡ ltb (readingCount s i) last
   above-all l =
       let e = r .last-is (omega arith) in
-      rw e (falling (readingValue s) (readingValue s i) i (λ j h. rw e at (r .top j h)) (λ z. ap (readingValue s) z))
+      rw e (falling (readingCount s) (readingCount s i) i (λ j h. rw e at (r .top j h)) (λ z. ap (readingCount s) z))
 
   -- what the reader tests is the definition's fault
-  pub item-is : (first : ℕ) → (readingPlace s 0 + 10 ≤ length s → first ≡ readingValue s 0) → itemFault s (readingPlace s i) low (daysOf s) first last ≡ readingFault s i
-  item-is first f = go (decLt (length s) (readingPlace s i + 10))
+  pub item-is : (first : ℕ) → (readingOffset s 0 + 10 ≤ length s → first ≡ readingCount s 0) → itemFault s (readingOffset s i) low (daysOf s) first last ≡ readingFault s i
+  item-is first f = go (decLt (length s) (readingOffset s i + 10))
     where
-      go : Dec (length s < readingPlace s i + 10) → itemFault s (readingPlace s i) low (daysOf s) first last ≡ readingFault s i
-      go (yes l) = simp (lt-ltb (length s) (readingPlace s i + 10) l)
+      go : Dec (length s < readingOffset s i + 10) → itemFault s (readingOffset s i) low (daysOf s) first last ≡ readingFault s i
+      go (yes l) = simp (lt-ltb (length s) (readingOffset s i + 10) l)
       go (no n) =
           let e = f (omega arith) in
           simp (e, r .low-is, rises (readingBoundary s) i, ← above-all (omega arith))
 
   -- .. so that the count before is at most this one
-  pub not-below : readingFault s i ≡ none → last ≤ readingValue s i
+  pub not-below : readingFault s i ≡ none → last ≤ readingCount s i
   not-below e =
       let g = sane s i e in
-      ltb-false (readingValue s i) last (sym (above-all (g .long)) ∙ g .ordered)
+      ltb-false (readingCount s i) last (sym (above-all (g .long)) ∙ g .ordered)
 
 pub readings-none : {s marks counts : List ℕ} {first : ℕ} → marks ≡ full (emptyCase s) .marks → counts ≡ full (emptyCase s) .counts
-    → (readingPlace s 0 + 10 ≤ length s → first ≡ readingValue s 0) → ReadingsRead s marks counts 0 first 0
+    → (readingOffset s 0 + 10 ≤ length s → first ≡ readingCount s 0) → ReadingsRead s marks counts 0 first 0
 unfolding firstFault withReadings
 readings-none m c f = record { clean = refl; low-is = refl; last-is = f; top = λ j h. absurd (omega arith); marks-are = m; counts-are = c }
 
 pub readings-more : {s marks counts : List ℕ} {low last i : ℕ} → ReadingsRead s marks counts low last i → readingFault s i ≡ none
-    → ReadingsRead s (set marks (readingBoundary s i) 2) (set counts (readingBoundary s i) (readingValue s i)) (readingBoundary s i + 1) (readingValue s i) (i + 1)
+    → ReadingsRead s (set marks (readingBoundary s i) 2) (set counts (readingBoundary s i) (readingCount s i)) (readingBoundary s i + 1) (readingCount s i) (i + 1)
 unfolding withReadings
 readings-more {s} {marks} {counts} {low} {last} {i} r e =
     let k = readings-kept s i in
@@ -142,10 +139,10 @@ readings-more {s} {marks} {counts} {low} {last} {i} r e =
           (filled-set 1097 b 2 (withReadings s i .marks) (omega (arith, k .marks-long, g .inside)));
       counts-are =
           rw (add-one i, r .counts-are)
-          (filled-set 1097 b (readingValue s i) (withReadings s i .counts) (omega (arith, k .counts-long, g .inside)));
+          (filled-set 1097 b (readingCount s i) (withReadings s i .counts) (omega (arith, k .counts-long, g .inside)));
     }
   where
-    go : (j : ℕ) → last ≤ readingValue s i → Dec (j < i) → j < i + 1 → readingValue s j ≤ readingValue s i
+    go : (j : ℕ) → last ≤ readingCount s i → Dec (j < i) → j < i + 1 → readingCount s j ≤ readingCount s i
     go j l (yes h) _ = omega (arith, r .top j h)
     go j l (no n) h =
         let same : j ≡ i = omega arith in

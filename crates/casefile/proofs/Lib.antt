@@ -7,8 +7,11 @@ pub mod Filed
 pub mod Chained
 pub mod Marked
 pub mod Answered
+pub mod Ordered
 pub mod Sound
+pub mod Agreed
 pub mod Held
 pub mod Again
+pub mod Reached
 pub mod Longest
 pub mod Enough

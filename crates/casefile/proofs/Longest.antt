@@ -1,19 +1,21 @@
 -- The longest file (Case file): boundaries rise and are at most n, so that a section has at most n+1 of them. Assumes nothing.
 use Prim.Native.Nat.{ℕ, zero, suc, _+_, _≤_, _<_}
-use mathlib.Core.Path.{_≡_, _∙_}
+use mathlib.Core.Path.{_≡_}
 use mathlib.Core.Bool.{false}
 use mathlib.Core.List.{List}
 use native.Mathlib.Omega.{arith}
 use borrow.Author.Tests.{ltb-false}
 use lib.Dec.{ltb}
 use lib.ListN.{length}
-use Rattle.casefile.specs.Case.{daysOf, readingCount, readingBoundary, cutCount, cutBoundary, endOf}
-use Rattle.casefile.specs.Faults.{none, firstFault, falls, readingFault, cutFault}
-use Rattle.casefile.specs.Length.{LongestFile}
+use Rattle.casefile.specs.Case.{daysOf, readingsLength, readingBoundary, cutsLength, cutBoundary, endOf}
+use Rattle.casefile.specs.Faults.{none, firstFault, falls, readingFault, cutFault, faultOf}
+use Rattle.casefile.specs.Length.{fileMost, LongestFile}
 use Rattle.casefile.proofs.Faults.{none-before, no-fault}
 use Rattle.casefile.proofs.Items.{Sane, sane}
-use Rattle.casefile.proofs.Sound.{climbs, SaneCut, sane-cut, clean-of}
+use Rattle.casefile.proofs.Ordered.{climbs}
+use Rattle.casefile.proofs.Sound.{SaneCut, sane-cut, clean-of}
 use Rattle.casefile.proofs.Chained.{span-none}
+use Rattle.casefile.proofs.Reached.{taken}
 
 -- boundaries that rise are at least their numbers
 pub at-least : (boundary : ℕ → ℕ) (i : ℕ) → ((j : ℕ) → j < suc i → falls boundary j ≡ false) → i ≤ boundary i
@@ -33,13 +35,17 @@ few-cuts s (suc m) e =
     let good : (j : ℕ) → j < suc m → SaneCut s j = λ j l. sane-cut s j (none-before (cutFault s) (suc m) j l e) in
     omega (arith, at-least (cutBoundary s) m (λ j l. good j l .rising), good m (omega arith) .inside)
 
-pub longest : LongestFile
-longest s e =
+-- no file is longer
+at-most : (s : List ℕ) → faultOf s ≡ none → length s ≤ fileMost
+at-most s e =
     let c = clean-of s e in
     omega (
       arith,
       span-none s (c .span) .most,
-      few-readings s (readingCount s) (c .readings),
-      few-cuts s (cutCount s) (c .cuts),
+      few-readings s (readingsLength s) (c .readings),
+      few-cuts s (cutsLength s) (c .cuts),
       ltb-false (endOf s) (length s) (no-fault (ltb (endOf s) (length s)) 13 (endOf s) (c .ended)),
     )
+
+pub longest : LongestFile
+longest = record { most = at-most; reached = taken }

@@ -11,7 +11,7 @@ use lib.Dec.{ltb}
 use lib.ListN.{length, getD, set}
 use Rattle.account.specs.Account.{marksReading, markOf}
 use Rattle.casefile.specs.declared.sections.Progress.{Progress}
-use Rattle.casefile.specs.Case.{daysOf, readingCount, cutCount, cutPlace, cutBoundary, withReadings, withCuts}
+use Rattle.casefile.specs.Case.{daysOf, readingsLength, cutsLength, cutOffset, cutBoundary, withReadings, withCuts}
 use Rattle.casefile.specs.Faults.{none, firstFault, falls, cutFault}
 use Rattle.casefile.specs.Reader.{full}
 use Rattle.casefile.specs.Sections.{told, Closed}
@@ -25,27 +25,27 @@ pub record CutsRead (s marks : List ℕ) (low i : ℕ) : Type 0 where
   pub low-is : low ≡ above (cutBoundary s) i
   pub marks-are : marks ≡ full (withCuts s i) .marks
 
-pub cuts-none : {s marks : List ℕ} → marks ≡ full (withReadings s (readingCount s)) .marks → CutsRead s marks 0 0
+pub cuts-none : {s marks : List ℕ} → marks ≡ full (withReadings s (readingsLength s)) .marks → CutsRead s marks 0 0
 unfolding firstFault withCuts
 cuts-none m = record { clean = refl; low-is = refl; marks-are = m }
 
-pub cut-early : (s : List ℕ) (i : ℕ) → length s < cutPlace s i + 2 → told 13 (length s) ≡ cutFault s i
-cut-early s i l = simp (lt-ltb (length s) (cutPlace s i + 2) l)
+pub cut-early : (s : List ℕ) (i : ℕ) → length s < cutOffset s i + 2 → told 13 (length s) ≡ cutFault s i
+cut-early s i l = simp (lt-ltb (length s) (cutOffset s i + 2) l)
 
-module _ {s marks : List ℕ} {low i : ℕ} (r : CutsRead s marks low i) (l : cutPlace s i + 2 ≤ length s) where
+module _ {s marks : List ℕ} {low i : ℕ} (r : CutsRead s marks low i) (l : cutOffset s i + 2 ≤ length s) where
   tested : falls (cutBoundary s) i ≡ ltb (cutBoundary s i) low
   tested = rw (r .low-is) (sym (rises (cutBoundary s) i))
 
-  pub cut-falls : cutBoundary s i < low → told 13 (cutPlace s i) ≡ cutFault s i
-  cut-falls h = simp (le-ltb (length s) (cutPlace s i + 2) l, tested, lt-ltb (cutBoundary s i) low h)
+  pub cut-falls : cutBoundary s i < low → told 13 (cutOffset s i) ≡ cutFault s i
+  cut-falls h = simp (le-ltb (length s) (cutOffset s i + 2) l, tested, lt-ltb (cutBoundary s i) low h)
 
   module _ (h : low ≤ cutBoundary s i) where
-    pub cut-outside : daysOf s < cutBoundary s i → told 6 (cutPlace s i) ≡ cutFault s i
-    cut-outside o = simp (le-ltb (length s) (cutPlace s i + 2) l, tested, le-ltb (cutBoundary s i) low h, lt-ltb (daysOf s) (cutBoundary s i) o)
+    pub cut-outside : daysOf s < cutBoundary s i → told 6 (cutOffset s i) ≡ cutFault s i
+    cut-outside o = simp (le-ltb (length s) (cutOffset s i + 2) l, tested, le-ltb (cutBoundary s i) low h, lt-ltb (daysOf s) (cutBoundary s i) o)
 
     module _ (b : cutBoundary s i ≤ daysOf s) where
       cut-clean : cutFault s i ≡ none
-      cut-clean = simp (le-ltb (length s) (cutPlace s i + 2) l, tested, le-ltb (cutBoundary s i) low h, le-ltb (daysOf s) (cutBoundary s i) b)
+      cut-clean = simp (le-ltb (length s) (cutOffset s i + 2) l, tested, le-ltb (cutBoundary s i) low h, le-ltb (daysOf s) (cutBoundary s i) b)
 
       inside : cutBoundary s i < length (withCuts s i .marks)
       inside = omega (arith, cuts-kept s i .marks-long)
@@ -60,7 +60,7 @@ module _ {s marks : List ℕ} {low i : ℕ} (r : CutsRead s marks low i) (l : cu
           }
 
 -- a fault at cut i is the first of its section
-pub cut-stops : {s marks lent : List ℕ} {low i number place : ℕ} {p : Progress} → CutsRead s marks low i → i < cutCount s → 0 < number
-    → p ≡ record { number = number; place = place; days = 0; next = 0 } → told number place ≡ cutFault s i → Closed s (firstFault (cutFault s) (cutCount s)) p lent
+pub cut-stops : {s marks lent : List ℕ} {low i number place : ℕ} {p : Progress} → CutsRead s marks low i → i < cutsLength s → 0 < number
+    → p ≡ record { number = number; place = place; days = 0; next = 0 } → told number place ≡ cutFault s i → Closed s (firstFault (cutFault s) (cutsLength s)) p lent
 cut-stops {s} {i = i} {number = number} {place = place} r h l e t =
-    record { reached = stops l e (first-told (cutFault s) (cutCount s) i number place h (r .clean) (λ z. omega arith) t); marks-are = λ z. absurd (met l e z) }
+    record { reached = stops l e (first-told (cutFault s) (cutsLength s) i number place h (r .clean) (λ z. omega arith) t); marks-are = λ z. absurd (met l e z) }

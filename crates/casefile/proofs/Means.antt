@@ -7,7 +7,7 @@ use lib.IntN.{ℤ}
 use lib.ListN.{length, set, take}
 use lib.Seq.{take-suc-set}
 use Rattle.casefile.specs.Bytes.{signed16}
-use Rattle.casefile.specs.Case.{meanPlace, firstMeans}
+use Rattle.casefile.specs.Case.{meanOffset, firstMeans}
 use Rattle.casefile.specs.Faults.{none, firstFault, meanFault}
 use Rattle.casefile.proofs.Faults.{first-more}
 
@@ -21,10 +21,10 @@ unfolding firstFault firstMeans
 means-none s means = record { clean = refl; read = refl }
 
 pub means-more : {s : List ℕ} {means : List ℤ} {i : ℕ} → MeansRead s means i → i < length means → meanFault s i ≡ none
-    → MeansRead s (set means i (signed16 s (meanPlace i))) (i + 1)
+    → MeansRead s (set means i (signed16 s (meanOffset i))) (i + 1)
 unfolding firstMeans
 means-more {s} {means} {i} r l e =
     record {
       clean = first-more (meanFault s) i (r .clean) e;
-      read = rw add-one (take-suc-set means i (signed16 s (meanPlace i)) l ∙ ap (λ (xs : List ℤ). xs ++ (signed16 s (meanPlace i) ∷ [])) (r .read));
+      read = rw add-one (take-suc-set means i (signed16 s (meanOffset i)) l ∙ ap (λ (xs : List ℤ). xs ++ (signed16 s (meanOffset i) ∷ [])) (r .read));
     }

@@ -5,26 +5,25 @@ use mathlib.Core.Bool.{Bool, true, false, not, _&&_}
 use mathlib.Core.List.{List, [], _∷_, _++_}
 use native.Mathlib.Omega.{arith}
 use native.Mathlib.Numerals.{add-one}
-use borrow.Author.Tests.{ltb-false, leb-true, le-ltb, le-leb, lt-leb, eq-eqb, not-false}
-use lib.Dec.{ltb, leb}
+use borrow.Author.Tests.{ltb-true, ltb-false, leb-true, leb-false, lt-ltb, le-ltb, le-leb, lt-leb, eq-eqb, not-false}
+use lib.Dec.{ltb, leb, leb·suc-suc}
 use lib.IntN.{ℤ}
 use lib.ListN.{length, take, drop, replicate, length-append, length-drop, length-replicate, getD-replicate}
 use lib.Seq.{ext-getD, getD-drop, length-take-le}
 use Rattle.profile.specs.Limits.{inRange, spanMost, profileCount}
 use Rattle.account.specs.Account.{badSpan}
-use Rattle.account.proofs.Boundaries.{both}
-use Rattle.profile.specs.Rows.{row}
+use Rattle.account.proofs.Below.{both}
+use Rattle.profile.specs.Rows.{row, filled}
 use Rattle.weights.specs.Means.{firstOut, someOut}
 use Rattle.weights.specs.Weights.{weightsOf, WeightsMet}
 use Rattle.weights.proofs.Span.{weights-length}
 use Rattle.weights.specs.declared.WeightsAnswer.{WeightsAnswer}
 use Rattle.casefile.specs.declared.sections.Progress.{Progress}
-use Rattle.casefile.specs.Bytes.{byte, number16, signed16}
-use Rattle.casefile.specs.Case.{meanCount, meanPlace, firstMeans, meansOf, daysOf}
-use Rattle.casefile.specs.Faults.{none, firstFault, meanFault, headFault, meansFault}
-use Rattle.casefile.specs.Reader.{filled}
+use Rattle.casefile.specs.Bytes.{byte, signed16}
+use Rattle.casefile.specs.Case.{profileByte, weekdayByte, meansLength, meanOffset, firstMeans, meansOf, daysOf}
+use Rattle.casefile.specs.Faults.{none, _before_, fault, firstFault, meanFault, headFault, meansFault}
 use Rattle.casefile.specs.Sections.{Reached, Clear, MeansMet, SpanMet, Weighable}
-use Rattle.casefile.proofs.Faults.{none-both, no-fault, passes, clean, stays, joins}
+use Rattle.casefile.proofs.Faults.{no-fault, passes, none-before, clean, stays, joins}
 
 pub record GoodSpan (n : ℕ) : Type 0 where
   pub least : 1 ≤ n
@@ -36,25 +35,24 @@ good-span n e =
     record { least = leb-true 1 n (b .0); most = leb-true n spanMost (b .1) }
 
 -- a head without a fault
-pub record Head (s : List ℕ) (at : ℕ) : Type 0 where
-  pub profiled : byte s at ≤ 9
-  pub dated : byte s (at + 1) ≤ 6
-  pub long : at + 4 ≤ length s
-  pub span : GoodSpan (number16 s (at + 2) - 3)
+pub record Head (s : List ℕ) : Type 0 where
+  pub profiled : profileByte s < profileCount
+  pub dated : weekdayByte s ≤ 6
+  pub long : 4 ≤ length s
+  pub span : GoodSpan (daysOf s)
 
-pub head-none : (s : List ℕ) (at : ℕ) → headFault s at ≡ none → Head s at
-head-none s at e =
-    let f1 = passes (ltb (length s) (at + 1)) 13 (length s) _ e in
-    let f2 = passes (ltb 9 (byte s at)) 1 at _ (f1 .1) in
-    let f3 = passes (ltb (length s) (at + 2)) 13 (length s) _ (f2 .1) in
-    let f4 = passes (ltb 6 (byte s (at + 1))) 2 (at + 1) _ (f3 .1) in
-    let f5 = passes (ltb (length s) (at + 4)) 13 (length s) _ (f4 .1) in
-    let n = number16 s (at + 2) - 3 in
+pub head-none : (s : List ℕ) → headFault s ≡ none → Head s
+head-none s e =
+    let f1 = passes (ltb (length s) 1) 13 (length s) _ e in
+    let f2 = passes (leb profileCount (profileByte s)) 1 0 _ (f1 .1) in
+    let f3 = passes (ltb (length s) 2) 13 (length s) _ (f2 .1) in
+    let f4 = passes (ltb 6 (weekdayByte s)) 2 1 _ (f3 .1) in
+    let f5 = passes (ltb (length s) 4) 13 (length s) _ (f4 .1) in
     record {
-      profiled = ltb-false _ _ (f2 .0);
+      profiled = leb-false _ _ (f2 .0);
       dated = ltb-false _ _ (f4 .0);
       long = ltb-false _ _ (f5 .0);
-      span = good-span n (no-fault (badSpan n) 3 (at + 2) (f5 .1));
+      span = good-span (daysOf s) (no-fault (badSpan (daysOf s)) 3 2 (f5 .1));
     }
 
 pub means-length : (s : List ℕ) (i : ℕ) → length (firstMeans s i) ≡ i
@@ -62,28 +60,46 @@ unfolding firstMeans
 means-length s zero = refl
 means-length s (suc i) = length-append (firstMeans s i) _ ∙ add-one _ ∙ ap suc (means-length s i)
 
--- one more mean in range
-out-more : (xs : List ℤ) (t : ℤ) → firstOut xs ≡ length xs → inRange t ≡ true → firstOut (xs ++ (t ∷ [])) ≡ suc (length xs)
-out-more [] t o e = rw e refl
-out-more (x ∷ xs) t o e = go (inRange x) (out-more xs t) o
+-- one more mean
+out-more : (xs : List ℤ) (t : ℤ) → firstOut (xs ++ (t ∷ [])) ≡ row (someOut xs) (firstOut xs) (row (inRange t) (suc (length xs)) (length xs))
+out-more [] t = refl
+out-more (x ∷ xs) t = go (inRange x) (out-more xs t)
   where
-    go : (b : Bool) → (firstOut xs ≡ length xs → inRange t ≡ true → firstOut (xs ++ (t ∷ [])) ≡ suc (length xs)) → row b (suc (firstOut xs)) 0 ≡ suc (length xs)
-        → row b (suc (firstOut (xs ++ (t ∷ [])))) 0 ≡ suc (suc (length xs))
-    go true later o = ap suc (later (omega arith) e)
-    go false later o = absurd (omega arith)
+    inner : (a b : Bool) (i j k : ℕ) → suc (row a i (row b j k)) ≡ row a (suc i) (row b (suc j) (suc k))
+    inner true b i j k = refl
+    inner false true i j k = refl
+    inner false false i j k = refl
 
-means-out : (s : List ℕ) (i : ℕ) → firstFault (meanFault s) i ≡ none → firstOut (firstMeans s i) ≡ i
+    go : (b : Bool) → firstOut (xs ++ (t ∷ [])) ≡ row (someOut xs) (firstOut xs) (row (inRange t) (suc (length xs)) (length xs))
+        → row b (suc (firstOut (xs ++ (t ∷ [])))) 0 ≡ row (ltb (row b (suc (firstOut xs)) 0) (suc (length xs))) (row b (suc (firstOut xs)) 0) (row (inRange t) (suc (suc (length xs))) (suc (length xs)))
+    go true e = rw (leb·suc-suc (suc (firstOut xs)) (length xs)) (ap suc e ∙ inner (someOut xs) (inRange t) _ _ _)
+    go false e = rw (lt-ltb 0 (suc (length xs)) (omega arith)) refl
+
+-- the first fault of means that are all there is the first one out of range
+pub means-out : (s : List ℕ) (i : ℕ) → meanOffset i ≤ length s → firstFault (meanFault s) i ≡ fault (someOut (firstMeans s i)) 4 (meanOffset (firstOut (firstMeans s i)))
 unfolding firstMeans firstFault
-means-out s zero e = refl
-means-out s (suc i) e =
-    let n = none-both (firstFault (meanFault s) i) _ e in
-    let m = passes (ltb (length s) (meanPlace i + 2)) 13 (length s) _ (n .1) in
-    let t = inRange (signed16 s (meanPlace i)) in
-    out-more (firstMeans s i) (signed16 s (meanPlace i)) (means-out s i (n .0) ∙ sym (means-length s i)) (not-false t (no-fault (not t) 4 (meanPlace i) (m .1))) ∙ ap suc (means-length s i)
+means-out s zero l = refl
+means-out s (suc i) l =
+    let n = means-length s (suc i) in
+    let t = signed16 s (meanOffset i) in
+    rw (means-out s i (omega arith), le-ltb (length s) (meanOffset i + 2) (omega arith), n, out-more (firstMeans s i) t, means-length s i)
+    (go (ltb (firstOut (firstMeans s i)) i) (inRange t) refl)
+  where
+    go : (a b : Bool) → ltb (firstOut (firstMeans s i)) i ≡ a →
+        (fault a 4 (meanOffset (firstOut (firstMeans s i))) before fault (not b) 4 (meanOffset i)) ≡
+        fault (ltb (row a (firstOut (firstMeans s i)) (row b (suc i) i)) (suc i)) 4 (meanOffset (row a (firstOut (firstMeans s i)) (row b (suc i) i)))
+    go true b e = rw (lt-ltb (firstOut (firstMeans s i)) (suc i) (omega (arith, ltb-true (firstOut (firstMeans s i)) i e))) refl
+    go false true e = rw (le-ltb (suc i) (suc i) (omega arith)) refl
+    go false false e = rw (lt-ltb i (suc i) (omega arith)) refl
 
 -- means without a fault are all in range
 pub means-in : (s : List ℕ) (i : ℕ) → firstFault (meanFault s) i ≡ none → someOut (firstMeans s i) ≡ false
-means-in s i e = rw (means-out s i e, means-length) (le-ltb i i (omega arith))
+unfolding firstMeans
+means-in s zero e = refl
+means-in s (suc i) e =
+    let m = passes (ltb (length s) (meanOffset i + 2)) 13 (length s) _ (none-before (meanFault s) (suc i) i (omega arith) e) in
+    let l = ltb-false (length s) (meanOffset i + 2) (m .0) in
+    no-fault (someOut (firstMeans s (suc i))) 4 _ (sym (means-out s (suc i) (omega arith)) ∙ e)
 
 drop-zeros : (k n : ℕ) → drop k (replicate {A = ℕ} n 0) ≡ replicate (n - k) 0
 drop-zeros k n = ext-getD 0 (drop k (replicate n 0)) (replicate (n - k) 0) (simp (length-drop, length-replicate)) λ i l.
@@ -104,15 +120,15 @@ weighs {profile} {weekday} {days} {means} {lent} {after} w m =
     rw (full, rest, long) refl
 
 -- from the head, at the start of the file, over the means to the weights
-module _ (s : List ℕ) {head : Progress} (h : Reached (headFault s 0) (daysOf s) 4 head) where
+module _ (s : List ℕ) {head : Progress} (h : Reached (headFault s) (daysOf s) 4 head) where
   pub head-fault : (weights : List ℕ) → (head .number ≡ 0 → ⊥) → SpanMet s head weights
   head-fault weights n = record { reached = stays (meansFault s) h n; weighed = λ z. absurd (n z) }
 
   module _ (z : head .number ≡ 0) where
-    pub known : Head s 0
-    known = head-none s 0 (clean h z)
+    pub known : Head s
+    known = head-none s (clean h z)
 
-    pub asked : (head .next ≡ 4) × (head .days + 3 ≡ meanCount s) × (4 ≤ head .days + 3) × (head .days + 3 ≤ 1099) × (_≡_ {A = ℕ} 1099 1099)
+    pub asked : (head .next ≡ 4) × (head .days + 3 ≡ meansLength s) × (4 ≤ head .days + 3) × (head .days + 3 ≤ 1099) × (_≡_ {A = ℕ} 1099 1099)
     asked =
         let d = h .days-are z in
         let least = known .span .least in
@@ -128,7 +144,7 @@ module _ (s : List ℕ) {head : Progress} (h : Reached (headFault s 0) (daysOf s
         first-means =
             let d = m .reached .days-are y in
             let least = known .span .least in
-            let e : span .days + 3 ≡ meanCount s = omega arith in
+            let e : span .days + 3 ≡ meansLength s = omega arith in
             rw e (m .read y)
 
         pub weighable : {lent : List ℕ} → length means ≡ 1099 → Clear spanMost lent → Weighable (byte s 0) (byte s 1) means (span .days) lent
@@ -140,7 +156,7 @@ module _ (s : List ℕ) {head : Progress} (h : Reached (headFault s 0) (daysOf s
               least = rw d (known .span .least);
               most = rw d (known .span .most);
               enough = omega (arith, known .span .most);
-              measured = rw first-means (means-in s (meanCount s) (clean (m .reached) y));
+              measured = rw first-means (means-in s (meansLength s) (clean (m .reached) y));
               clear = c;
             }
 

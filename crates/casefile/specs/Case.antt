@@ -9,76 +9,76 @@ use Rattle.account.specs.Calls.{readingPut, cutPut}
 use Rattle.weights.specs.Weights.{weightsOf}
 use Rattle.casefile.specs.Bytes.{byte, number16, number64, signed16}
 
-abbrev pub profileOf : List ℕ → ℕ
-profileOf s = byte s 0
+abbrev pub profileByte : List ℕ → ℕ
+profileByte s = byte s 0
 
-abbrev pub weekdayOf : List ℕ → ℕ
-weekdayOf s = byte s 1
+abbrev pub weekdayByte : List ℕ → ℕ
+weekdayByte s = byte s 1
 
 -- means: their count at 2, mean i at 4 + 2 × i
-abbrev pub meanCount : List ℕ → ℕ
-meanCount s = number16 s 2
+abbrev pub meansLength : List ℕ → ℕ
+meansLength s = number16 s 2
 
-abbrev pub meanPlace : ℕ → ℕ
-meanPlace i = 4 + 2 * i
+abbrev pub meanOffset : ℕ → ℕ
+meanOffset i = 4 + 2 * i
 
 unfoldable pub firstMeans : List ℕ → ℕ → List ℤ
 firstMeans s zero = []
-firstMeans s (suc i) = firstMeans s i ++ (signed16 s (meanPlace i) ∷ [])
+firstMeans s (suc i) = firstMeans s i ++ (signed16 s (meanOffset i) ∷ [])
 
 abbrev pub meansOf : List ℕ → List ℤ
-meansOf s = firstMeans s (meanCount s)
+meansOf s = firstMeans s (meansLength s)
 
 -- "n is the number of means less three."
 abbrev pub daysOf : List ℕ → ℕ
-daysOf s = meanCount s - 3
+daysOf s = meansLength s - 3
 
 -- readings: their count after the means, then 10 bytes each, boundary and count
-abbrev pub readingsPlace : List ℕ → ℕ
-readingsPlace s = meanPlace (meanCount s)
+abbrev pub readingsOffset : List ℕ → ℕ
+readingsOffset s = meanOffset (meansLength s)
 
-abbrev pub readingCount : List ℕ → ℕ
-readingCount s = number16 s (readingsPlace s)
+abbrev pub readingsLength : List ℕ → ℕ
+readingsLength s = number16 s (readingsOffset s)
 
-abbrev pub readingPlace : List ℕ → ℕ → ℕ
-readingPlace s i = readingsPlace s + 2 + 10 * i
+abbrev pub readingOffset : List ℕ → ℕ → ℕ
+readingOffset s i = readingsOffset s + 2 + 10 * i
 
 abbrev pub readingBoundary : List ℕ → ℕ → ℕ
-readingBoundary s i = number16 s (readingPlace s i)
+readingBoundary s i = number16 s (readingOffset s i)
 
-abbrev pub readingValue : List ℕ → ℕ → ℕ
-readingValue s i = number64 s (readingPlace s i + 2)
+abbrev pub readingCount : List ℕ → ℕ → ℕ
+readingCount s i = number64 s (readingOffset s i + 2)
 
 -- cuts: their count after the readings, then 2 bytes each
-abbrev pub cutsPlace : List ℕ → ℕ
-cutsPlace s = readingPlace s (readingCount s)
+abbrev pub cutsOffset : List ℕ → ℕ
+cutsOffset s = readingOffset s (readingsLength s)
 
-abbrev pub cutCount : List ℕ → ℕ
-cutCount s = number16 s (cutsPlace s)
+abbrev pub cutsLength : List ℕ → ℕ
+cutsLength s = number16 s (cutsOffset s)
 
-abbrev pub cutPlace : List ℕ → ℕ → ℕ
-cutPlace s i = cutsPlace s + 2 + 2 * i
+abbrev pub cutOffset : List ℕ → ℕ → ℕ
+cutOffset s i = cutsOffset s + 2 + 2 * i
 
 abbrev pub cutBoundary : List ℕ → ℕ → ℕ
-cutBoundary s i = number16 s (cutPlace s i)
+cutBoundary s i = number16 s (cutOffset s i)
 
 -- the offset after the last cut
 abbrev pub endOf : List ℕ → ℕ
-endOf s = cutPlace s (cutCount s)
+endOf s = cutOffset s (cutsLength s)
 
 -- the account over the means' weights: nothing marked, then the first i readings, then the first i cuts put in
 abbrev pub emptyCase : List ℕ → Account
 emptyCase s =
-    account (weightsOf (profileOf s) (weekdayOf s) (meansOf s)) (replicate (daysOf s + 1) 0) (replicate (daysOf s + 1) 0)
+    account (weightsOf (profileByte s) (weekdayByte s) (meansOf s)) (replicate (daysOf s + 1) 0) (replicate (daysOf s + 1) 0)
 
 unfoldable pub withReadings : List ℕ → ℕ → Account
 withReadings s zero = emptyCase s
-withReadings s (suc i) = readingPut (withReadings s i) (readingBoundary s i) (readingValue s i)
+withReadings s (suc i) = readingPut (withReadings s i) (readingBoundary s i) (readingCount s i)
 
 unfoldable pub withCuts : List ℕ → ℕ → Account
-withCuts s zero = withReadings s (readingCount s)
+withCuts s zero = withReadings s (readingsLength s)
 withCuts s (suc i) = cutPut (withCuts s i) (cutBoundary s i)
 
 -- the account that the file names
-abbrev pub named : List ℕ → Account
-named s = withCuts s (cutCount s)
+abbrev pub accountOf : List ℕ → Account
+accountOf s = withCuts s (cutsLength s)

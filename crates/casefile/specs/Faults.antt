@@ -5,11 +5,11 @@ use mathlib.Core.Bool.{Bool, true, false, not}
 use mathlib.Core.List.{List}
 use lib.Dec.{leb, ltb}
 use lib.ListN.{length}
-use Rattle.profile.specs.Limits.{inRange}
-use Rattle.account.specs.Boundaries.{some}
+use Rattle.profile.specs.Limits.{profileCount, inRange}
+use Rattle.account.specs.Below.{some}
 use Rattle.account.specs.Account.{badSpan, energyMost}
-use Rattle.casefile.specs.Bytes.{byte, number16, signed16}
-use Rattle.casefile.specs.Case.{meanCount, meanPlace, daysOf, readingsPlace, readingCount, readingPlace, readingBoundary, readingValue, cutsPlace, cutCount, cutPlace, cutBoundary, endOf}
+use Rattle.casefile.specs.Bytes.{signed16}
+use Rattle.casefile.specs.Case.{profileByte, weekdayByte, meansLength, meanOffset, daysOf, readingsOffset, readingsLength, readingOffset, readingBoundary, readingCount, cutsOffset, cutsLength, cutOffset, cutBoundary, endOf}
 
 -- no fault, or a refusal with its number and its place
 pub data Fault : Type 0 where
@@ -43,47 +43,47 @@ falls boundary (suc i) = leb (boundary (suc i)) (boundary i)
 
 abbrev pub meanFault : List ℕ → ℕ → Fault
 meanFault s i =
-    early s (meanPlace i + 2) before
-    fault (not (inRange (signed16 s (meanPlace i)))) 4 (meanPlace i)
+    early s (meanOffset i + 2) before
+    fault (not (inRange (signed16 s (meanOffset i)))) 4 (meanOffset i)
 
 -- boundaries rise, so only earlier readings can be out of order with it, and it is the last: the first is reading 0
 abbrev pub readingFault : List ℕ → ℕ → Fault
 readingFault s i =
-    early s (readingPlace s i + 10) before
-    fault (falls (readingBoundary s) i) 13 (readingPlace s i) before
-    fault (ltb (daysOf s) (readingBoundary s i)) 6 (readingPlace s i) before
-    fault (some (λ j. ltb (readingValue s i) (readingValue s j)) i) 8 (readingPlace s i + 2) before
-    fault (ltb energyMost (readingValue s i - readingValue s 0)) 9 (readingPlace s i + 2)
+    early s (readingOffset s i + 10) before
+    fault (falls (readingBoundary s) i) 13 (readingOffset s i) before
+    fault (ltb (daysOf s) (readingBoundary s i)) 6 (readingOffset s i) before
+    fault (some (λ j. ltb (readingCount s i) (readingCount s j)) i) 8 (readingOffset s i + 2) before
+    fault (ltb energyMost (readingCount s i - readingCount s 0)) 9 (readingOffset s i + 2)
 
 abbrev pub cutFault : List ℕ → ℕ → Fault
 cutFault s i =
-    early s (cutPlace s i + 2) before
-    fault (falls (cutBoundary s) i) 13 (cutPlace s i) before
-    fault (ltb (daysOf s) (cutBoundary s i)) 6 (cutPlace s i)
+    early s (cutOffset s i + 2) before
+    fault (falls (cutBoundary s) i) 13 (cutOffset s i) before
+    fault (ltb (daysOf s) (cutBoundary s i)) 6 (cutOffset s i)
 
--- the first fault of each section: profile, weekday and the count of means, which begin the file at offset 0 ..
-abbrev pub headFault : List ℕ → ℕ → Fault
-headFault s at =
-    early s (at + 1) before
-    fault (ltb 9 (byte s at)) 1 at before
-    early s (at + 2) before
-    fault (ltb 6 (byte s (at + 1))) 2 (at + 1) before
-    early s (at + 4) before
-    fault (badSpan (number16 s (at + 2) - 3)) 3 (at + 2)
+-- the first fault of each section: profile, weekday and the count of means ..
+abbrev pub headFault : List ℕ → Fault
+headFault s =
+    early s 1 before
+    fault (leb profileCount (profileByte s)) 1 0 before
+    early s 2 before
+    fault (ltb 6 (weekdayByte s)) 2 1 before
+    early s 4 before
+    fault (badSpan (daysOf s)) 3 2
 
 -- .. the means, the readings, and the cuts with the end of the file
 abbrev pub meansFault : List ℕ → Fault
-meansFault s = firstFault (meanFault s) (meanCount s)
+meansFault s = firstFault (meanFault s) (meansLength s)
 
 abbrev pub readingsFault : List ℕ → Fault
-readingsFault s = early s (readingsPlace s + 2) before firstFault (readingFault s) (readingCount s)
+readingsFault s = early s (readingsOffset s + 2) before firstFault (readingFault s) (readingsLength s)
 
 abbrev pub cutsFault : List ℕ → Fault
 cutsFault s =
-    early s (cutsPlace s + 2) before
-    firstFault (cutFault s) (cutCount s) before
+    early s (cutsOffset s + 2) before
+    firstFault (cutFault s) (cutsLength s) before
     fault (ltb (endOf s) (length s)) 13 (endOf s)
 
 -- the first fault of a file, front to back
 abbrev pub faultOf : List ℕ → Fault
-faultOf s = headFault s 0 before meansFault s before readingsFault s before cutsFault s
+faultOf s = headFault s before meansFault s before readingsFault s before cutsFault s

@@ -3,4 +3,5 @@ pub mod Case
 pub mod Faults
 pub mod Reader
 pub mod Sections
+pub mod Agrees
 pub mod Length

@@ -7,13 +7,13 @@ use mathlib.Core.List.{List}
 use lib.Dec.{ltb}
 use lib.IntN.{ℤ}
 use lib.ListN.{length, replicate, take}
-use Rattle.profile.specs.Limits.{spanMost}
-use Rattle.account.specs.Account.{Account, badSpan, energyMost}
+use Rattle.profile.specs.Limits.{profileCount, spanMost}
+use Rattle.account.specs.Account.{Account, energyMost}
 use Rattle.weights.specs.Means.{someOut}
 use Rattle.casefile.specs.declared.sections.Progress.{Progress}
 use Rattle.casefile.specs.declared.readings.Reading.{Reading}
-use Rattle.casefile.specs.Bytes.{byte, number16, number64}
-use Rattle.casefile.specs.Case.{meanCount, meansOf, daysOf, readingsPlace, readingCount, readingPlace, cutsPlace, cutCount, cutPlace, endOf, emptyCase, withReadings, named}
+use Rattle.casefile.specs.Bytes.{number16, number64}
+use Rattle.casefile.specs.Case.{meansLength, meansOf, daysOf, readingsOffset, readingsLength, readingOffset, cutsOffset, cutsLength, cutOffset, endOf, emptyCase, withReadings, accountOf}
 use Rattle.casefile.specs.Faults.{Fault, none, refused, _before_, fault, early, headFault, meansFault, readingsFault, faultOf}
 use Rattle.casefile.specs.Reader.{full}
 
@@ -24,7 +24,7 @@ told (suc number) place = refused (suc number) place
 
 -- the first fault up to the end of the means, and of the readings
 abbrev pub spanFault : List ℕ → Fault
-spanFault s = headFault s 0 before meansFault s
+spanFault s = headFault s before meansFault s
 
 abbrev pub filedFault : List ℕ → Fault
 filedFault s = spanFault s before readingsFault s
@@ -37,8 +37,8 @@ pub record Reached (f : Fault) (n next : ℕ) (p : Progress) : Type 0 where
 
 -- the means, or their fault
 pub record MeansMet (s : List ℕ) (p : Progress) (means : List ℤ) : Type 0 where
-  pub reached : Reached (meansFault s) (daysOf s) (readingsPlace s) p
-  pub read : p .number ≡ 0 → take (meanCount s) means ≡ meansOf s
+  pub reached : Reached (meansFault s) (daysOf s) (readingsOffset s) p
+  pub read : p .number ≡ 0 → take (meansLength s) means ≡ meansOf s
 
 -- a lent slice of this length, all zero
 pub record Clear (n : ℕ) (lent : List ℕ) : Type 0 where
@@ -47,7 +47,7 @@ pub record Clear (n : ℕ) (lent : List ℕ) : Type 0 where
 
 -- profile, weekday and the first means give weights, and the lent slice is zero
 pub record Weighable (profile weekday : ℕ) (means : List ℤ) (days : ℕ) (lent : List ℕ) : Type 0 where
-  pub profiled : profile ≤ 9
+  pub profiled : profile < profileCount
   pub dated : weekday ≤ 6
   pub least : 1 ≤ days
   pub most : days ≤ spanMost
@@ -57,7 +57,7 @@ pub record Weighable (profile weekday : ℕ) (means : List ℤ) (days : ℕ) (le
 
 -- profile, weekday and means with the weights that they give, or their fault
 pub record SpanMet (s : List ℕ) (p : Progress) (weights : List ℕ) : Type 0 where
-  pub reached : Reached (spanFault s) (daysOf s) (readingsPlace s) p
+  pub reached : Reached (spanFault s) (daysOf s) (readingsOffset s) p
   pub weighed : p .number ≡ 0 → weights ≡ full (emptyCase s) .weights
 
 -- a reading's count, where the count before it is `last` and the first one `first`
@@ -88,8 +88,8 @@ pub record ItemMet (s : List ℕ) (at low n first last : ℕ) (r : Reading) : Ty
 
 -- the readings from an offset on, asked for slices that hold the empty account
 pub record ReadingsAsked (s : List ℕ) (at count n : ℕ) (marks counts : List ℕ) : Type 0 where
-  pub starts : at ≡ readingPlace s 0
-  pub counted : count ≡ readingCount s
+  pub starts : at ≡ readingOffset s 0
+  pub counted : count ≡ readingsLength s
   pub days-are : n ≡ daysOf s
   pub few : count < 65536
   pub near : at ≤ length s
@@ -101,38 +101,38 @@ pub record ReadingsAsked (s : List ℕ) (at count n : ℕ) (marks counts : List 
 
 -- the slices hold the readings, or the progress tells a fault of the file
 pub record Filed (s : List ℕ) (f : Fault) (p : Progress) (marks counts : List ℕ) : Type 0 where
-  pub reached : Reached f (daysOf s) (cutsPlace s) p
-  pub marks-are : p .number ≡ 0 → marks ≡ full (withReadings s (readingCount s)) .marks
-  pub counts-are : p .number ≡ 0 → counts ≡ full (withReadings s (readingCount s)) .counts
+  pub reached : Reached f (daysOf s) (cutsOffset s) p
+  pub marks-are : p .number ≡ 0 → marks ≡ full (withReadings s (readingsLength s)) .marks
+  pub counts-are : p .number ≡ 0 → counts ≡ full (withReadings s (readingsLength s)) .counts
 
 -- the readings, after a span that is read or has a fault
 pub record ReadingsFrom (s : List ℕ) (at : ℕ) (so-far : Progress) (marks counts : List ℕ) : Type 0 where
-  pub reached : Reached (spanFault s) (daysOf s) (readingsPlace s) so-far
+  pub reached : Reached (spanFault s) (daysOf s) (readingsOffset s) so-far
   pub follows : at ≡ so-far .next
   pub marks-clear : Clear (spanMost + 1) marks
   pub counts-clear : Clear (spanMost + 1) counts
 
 -- the cuts from an offset on, asked for marks that hold the readings
 pub record CutsAsked (s : List ℕ) (at count n : ℕ) (marks : List ℕ) : Type 0 where
-  pub starts : at ≡ cutPlace s 0
-  pub counted : count ≡ cutCount s
+  pub starts : at ≡ cutOffset s 0
+  pub counted : count ≡ cutsLength s
   pub days-are : n ≡ daysOf s
   pub few : count < 65536
   pub near : at ≤ length s
   pub span : n ≤ spanMost
-  pub marks-are : marks ≡ full (withReadings s (readingCount s)) .marks
+  pub marks-are : marks ≡ full (withReadings s (readingsLength s)) .marks
   pub marks-long : length marks ≡ spanMost + 1
 
 -- the marks hold the readings and the cuts, or the progress tells a fault of the file
 pub record Closed (s : List ℕ) (f : Fault) (p : Progress) (marks : List ℕ) : Type 0 where
   pub reached : Reached f (daysOf s) (endOf s) p
-  pub marks-are : p .number ≡ 0 → marks ≡ full (named s) .marks
+  pub marks-are : p .number ≡ 0 → marks ≡ full (accountOf s) .marks
 
 -- the cuts, after readings that are read or have a fault
 pub record CutsFrom (s : List ℕ) (at : ℕ) (so-far : Progress) (marks : List ℕ) : Type 0 where
-  pub reached : Reached (filedFault s) (daysOf s) (cutsPlace s) so-far
+  pub reached : Reached (filedFault s) (daysOf s) (cutsOffset s) so-far
   pub follows : at ≡ so-far .next
-  pub marks-are : so-far .number ≡ 0 → marks ≡ full (withReadings s (readingCount s)) .marks
+  pub marks-are : so-far .number ≡ 0 → marks ≡ full (withReadings s (readingsLength s)) .marks
   pub marks-long : length marks ≡ spanMost + 1
 
 -- slices of full length, all zero
@@ -144,4 +144,4 @@ pub record AllClear (lent : Account) : Type 0 where
 -- the slices hold the account that the file names, or the progress tells the file's fault
 pub record FillMet (s : List ℕ) (p : Progress) (after : Account) : Type 0 where
   pub reached : Reached (faultOf s) (daysOf s) (endOf s) p
-  pub fills : p .number ≡ 0 → after ≡ full (named s)
+  pub fills : p .number ≡ 0 → after ≡ full (accountOf s)

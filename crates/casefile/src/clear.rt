@@ -2,11 +2,11 @@
 ghost use mathlib.Core.Path.{_≡_};
 ghost use lib.ListN.{length, replicate};
 ghost use Rattle.account.specs.Account.{account};
-ghost use Rattle.casefile.specs.Reader.{zeros};
+ghost use Rattle.casefile.specs.Reader.{allZero};
 
 // The three slices of an account.
 pub(crate) fn clear(weights: &mut [u32], marks: &mut [u8], counts: &mut [u64])
-    ensures { λ r. ⌜ account (now (weights .exit)) (now (marks .exit)) (now (counts .exit)) ≡ zeros (account (now (weights .entry)) (now (marks .entry)) (now (counts .entry))) ⌝ }
+    ensures { λ r. ⌜ account (now (weights .exit)) (now (marks .exit)) (now (counts .exit)) ≡ allZero (account (now (weights .entry)) (now (marks .entry)) (now (counts .entry))) ⌝ }
 {
     clear_weights(weights);
     clear_marks(marks);

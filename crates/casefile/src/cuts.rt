@@ -2,7 +2,7 @@
 ghost use mathlib.Core.Path.{_≡_};
 ghost use mathlib.Core.Bool.{true};
 ghost use Rattle.account.specs.Account.{marksReading, markOf};
-ghost use Rattle.casefile.specs.Case.{cutCount};
+ghost use Rattle.casefile.specs.Case.{cutsLength};
 ghost use Rattle.casefile.specs.Faults.{firstFault, cutFault, faultOf};
 ghost use Rattle.casefile.specs.Sections.{CutsAsked, CutsFrom, Closed};
 use crate::bytes::number16;
@@ -26,7 +26,7 @@ fn with_cut(mark: u8) -> u8
 // Each cut from an offset on, up to the first fault.
 fn each_cut(file: &[u8], at: usize, count: usize, days: usize, marks: &mut [u8]) -> Progress
     requires { ⌜ CutsAsked (now file) at count days (now marks) ⌝ }
-    ensures { λ r. ⌜ Closed (now (file .entry)) (firstFault (cutFault (now (file .entry))) (cutCount (now (file .entry)))) r (now (marks .exit)) ⌝ }
+    ensures { λ r. ⌜ Closed (now (file .entry)) (firstFault (cutFault (now (file .entry))) (cutsLength (now (file .entry)))) r (now (marks .exit)) ⌝ }
 {
     let mut low = 0;
     let mut i = 0;

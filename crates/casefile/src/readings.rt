@@ -3,7 +3,7 @@ ghost use mathlib.Core.Path.{_≡_};
 ghost use Prim.Native.Nat.{_+_, _≤_, _<_, _^_};
 ghost use lib.ListN.{length};
 ghost use Rattle.casefile.specs.Bytes.{number64};
-ghost use Rattle.casefile.specs.Case.{readingCount};
+ghost use Rattle.casefile.specs.Case.{readingsLength};
 ghost use Rattle.casefile.specs.Faults.{firstFault, readingFault};
 ghost use Rattle.casefile.specs.Sections.{ItemMet, CountedMet, ReadingsAsked, ReadingsFrom, Filed, filedFault};
 use crate::bytes::number16;
@@ -92,7 +92,7 @@ fn each_reading(
     counts: &mut [u64],
 ) -> Progress
     requires { ⌜ ReadingsAsked (now file) at count days (now marks) (now counts) ⌝ }
-    ensures { λ r. ⌜ Filed (now (file .entry)) (firstFault (readingFault (now (file .entry))) (readingCount (now (file .entry)))) r (now (marks .exit)) (now (counts .exit)) ⌝ }
+    ensures { λ r. ⌜ Filed (now (file .entry)) (firstFault (readingFault (now (file .entry))) (readingsLength (now (file .entry)))) r (now (marks .exit)) (now (counts .exit)) ⌝ }
 {
     let first = first_count(file, at);
     let mut last = first;

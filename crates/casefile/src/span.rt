@@ -1,12 +1,11 @@
 // The first sections of a case file: profile, weekday and means, and the weights that they give (Case file).
 ghost use mathlib.Core.Path.{_≡_};
-ghost use Prim.Native.Nat.{_+_, _-_, _≤_};
+ghost use Prim.Native.Nat.{_+_, _≤_};
 ghost use lib.ListN.{length, take};
 ghost use Rattle.profile.specs.Limits.{spanMost};
 ghost use Rattle.weights.specs.Weights.{weightsOf};
-ghost use Rattle.casefile.specs.Reader.{filled};
-ghost use Rattle.casefile.specs.Bytes.{number16};
-ghost use Rattle.casefile.specs.Case.{meanCount};
+ghost use Rattle.profile.specs.Rows.{filled};
+ghost use Rattle.casefile.specs.Case.{meansLength, daysOf};
 ghost use Rattle.casefile.specs.Sections.{Reached, MeansMet, SpanMet, Clear, Weighable};
 ghost use Rattle.casefile.specs.Faults.{headFault};
 use crate::bytes::number16;
@@ -17,38 +16,37 @@ use crate::sections::refused;
 use profile::Profile;
 
 // Profile, weekday and the count of means.
-fn head_at(file: &[u8], at: usize) -> Progress
-    requires { ⌜ at ≤ length (now file) ⌝ }
-    ensures { λ r. ⌜ Reached (headFault (now (file .entry)) at) (number16 (now (file .entry)) (at + 2) - 3) (at + 4) r ⌝ }
+fn head(file: &[u8]) -> Progress
+    ensures { λ r. ⌜ Reached (headFault (now (file .entry))) (daysOf (now (file .entry))) 4 r ⌝ }
 {
-    if file.len() < at + 1 {
+    if file.len() < 1 {
         return refused(13, file.len());
     }
-    if 9 < file[at] {
-        return refused(1, at);
+    if Profile::COUNT <= file[0] {
+        return refused(1, 0);
     }
-    if file.len() < at + 2 {
+    if file.len() < 2 {
         return refused(13, file.len());
     }
-    if 6 < file[at + 1] {
-        return refused(2, at + 1);
+    if 6 < file[1] {
+        return refused(2, 1);
     }
-    if file.len() < at + 4 {
+    if file.len() < 4 {
         return refused(13, file.len());
     }
-    let count = number16(file, at + 2);
+    let count = number16(file, 2);
     if count < 4 {
-        return refused(3, at + 2);
+        return refused(3, 2);
     }
     if Profile::SPAN + 3 < count {
-        return refused(3, at + 2);
+        return refused(3, 2);
     }
-    passed(count - 3, at + 4)
+    passed(count - 3, 4)
 }
 
 // The means, up to the first fault, into a buffer.
 fn means_at(file: &[u8], at: usize, count: usize, means: &mut [i16]) -> Progress
-    requires { ⌜ (at ≡ 4) × (count ≡ meanCount (now file)) × (4 ≤ count) × (count ≤ length (now means)) × (length (now means) ≡ 1099) ⌝ }
+    requires { ⌜ (at ≡ 4) × (count ≡ meansLength (now file)) × (4 ≤ count) × (count ≤ length (now means)) × (length (now means) ≡ 1099) ⌝ }
     ensures { λ r. ⌜ MeansMet (now (file .entry)) r (now (means .exit)) ⌝ }
 {
     let mut i = 0;
@@ -80,7 +78,7 @@ pub(crate) fn span_at(file: &[u8], at: usize, weights: &mut [u32]) -> Progress
     requires { ⌜ (at ≡ 0) × Clear spanMost (now weights) ⌝ }
     ensures { λ r. ⌜ SpanMet (now (file .entry)) r (now (weights .exit)) ⌝ }
 {
-    let head = head_at(file, at);
+    let head = head(file);
     if head.number != 0 {
         return head;
     }

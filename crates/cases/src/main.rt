@@ -3,6 +3,8 @@ use layout::TEXT_MOST;
 use libc::STDOUT_FILENO;
 use profile::Profile;
 use report::FILE_READ;
+ghost use mathlib.Core.Path.{_≡_};
+ghost use Rattle.report.specs.Report.{fileText};
 
 // The text of the file that can be read here.
 fn print_case(fd: i32) {
@@ -19,7 +21,14 @@ fn print_case(fd: i32) {
         &mut counts,
         &mut text,
     );
-    io::write_all(STDOUT_FILENO, &text[..n]);
+    print(&file[..length], &text[..n]);
+}
+
+// Writes the text of a file, and can be handed nothing else.
+fn print(file: &[u8], text: &[u8])
+    requires { ⌜ now text ≡ fileText (now file) ⌝ }
+{
+    io::write_all(STDOUT_FILENO, text);
 }
 
 // The name of a file, and its text.

@@ -1,15 +1,15 @@
--- Customer value and daily amount: "The customer value, in units of 0.1 Wh, is nearest(energy × 10^7 / Z), energy in Wh, Z the sum of
+-- Customer value (Kundenwert) and daily amount: "The customer value, in units of 0.1 Wh, is nearest(energy × 10^7 / Z), energy in Wh, Z the sum of
 -- the lent weights. The daily amount is nearest(value × weight / 10^7) Wh."
 use Prim.Native.Nat.{ℕ, _*_}
 use mathlib.Core.Path.{_≡_}
-use mathlib.Core.Bool.{cond, not}
+use mathlib.Core.Bool.{not}
 use mathlib.Core.List.{List}
-use lib.Dec.{eqb, ltb}
+use lib.Dec.{ltb}
 use lib.ListN.{length}
 use Rattle.rounding.specs.Nearest.{nearest}
 use Rattle.account.specs.Account.{badSpan, goodWeight, goodWeights, energyMost}
-use Rattle.profile.specs.Rows.{row}
-use Rattle.profile.specs.Table.{sumOf}
+use Rattle.profile.specs.Rows.{row, ifDone}
+use Rattle.profile.specs.Coefficients.{sumOf}
 use Rattle.customer.specs.declared.CustomerAnswer.{CustomerAnswer}
 use Rattle.customer.specs.declared.CustomerAnswer.the-variants.{Given, Unfit, Unsound, TooMuch, TooGreat}
 
@@ -56,9 +56,9 @@ amountRows v weight =
 
 pub record CustomerMet (energy : ℕ) (w : List ℕ) (answer : CustomerAnswer) (after : List ℕ) : Type 0 where
   pub answers : number answer ≡ customerRows energy w
-  pub values : value answer ≡ cond (eqb (customerRows energy w) 0) (customerValue energy w) 0
+  pub values : value answer ≡ ifDone (customerRows energy w) (customerValue energy w) 0
   pub stays : after ≡ w
 
 pub record AmountMet (v weight : ℕ) (answer : CustomerAnswer) : Type 0 where
   pub answers : number answer ≡ amountRows v weight
-  pub values : value answer ≡ cond (eqb (amountRows v weight) 0) (dailyAmount v weight) 0
+  pub values : value answer ≡ ifDone (amountRows v weight) (dailyAmount v weight) 0

@@ -3,7 +3,7 @@ ghost use mathlib.Core.Path.{_≡_};
 ghost use Prim.Native.Nat.{_≤_};
 ghost use lib.ListN.{length};
 ghost use Rattle.profile.specs.Limits.{spanMost};
-ghost use Rattle.profile.specs.Table.{sumOf};
+ghost use Rattle.profile.specs.Coefficients.{sumOf};
 ghost use Rattle.customer.specs.Customer.{CustomerMet, AmountMet};
 use account::ENERGY_MOST;
 use profile::Profile;

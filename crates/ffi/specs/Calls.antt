@@ -2,24 +2,21 @@
 -- is that of the call below, with the number, the place and the values of its answer, and the rules are those of the crates below.
 use Prim.Native.Nat.{ℕ, _+_, _≤_}
 use mathlib.Core.Path.{_≡_}
-use mathlib.Core.Bool.{cond, not}
 use mathlib.Core.List.{List}
-use lib.Dec.{eqb}
 use lib.IntN.{ℤ, pos}
 use lib.ListN.{length}
+use Rattle.profile.specs.Rows.{ifDone}
 use Rattle.profile.specs.Limits.{weightLeast, weightMost}
-use Rattle.profile.specs.Table.{profileOf}
+use Rattle.profile.specs.Coefficients.{profileOf}
 use Rattle.profile.specs.Value.{valueLow, valueHigh}
 use Rattle.profile.specs.Weight.{weightOf, floorWeight}
-use Rattle.profile.specs.Answers.{accepted, valueRefusal, weightRefusal, Enclosed}
-use Rattle.profile.specs.Rows.{row}
+use Rattle.profile.specs.Answers.{valueRefusal, weightRefusal, Enclosed}
 use Rattle.weights.specs.Temperature.{temperatureNumber, temperaturePlace, temperatureValue}
-use Rattle.weights.specs.Choose.{spans, serves}
+use Rattle.weights.specs.Choose.{Series, Measured, Forecast, Neither, choice}
 use Rattle.weights.specs.Weights.{outcome, Bounded}
 use Rattle.account.specs.Account.{Account, days, shown}
-use Rattle.account.specs.Calls as account
 use Rattle.statement.specs.Parts.{Outputs, parts, written}
-use Rattle.statement.specs.Call.{statementNumber, left}
+use Rattle.statement.specs.Call.{statementNumber, outputsAfter}
 use Rattle.customer.specs.Customer.{customerRows, customerValue, amountRows, dailyAmount}
 use Rattle.casefile.specs.Case.{daysOf}
 use Rattle.casefile.specs.Reader.{verdict, faultNumber, faultPlace, slicesAfter}
@@ -33,42 +30,45 @@ abbrev pub told : ℕ → ℕ → ℕ → Outcome
 told number place value = record { number = number; place = place; value = value }
 
 -- ---- Temperature of a day
-pub record TemperatureMet (a b c d : ℤ) (r : Temperature) : Type 0 where
+pub record TemperatureReturned (a b c d : ℤ) (r : Temperature) : Type 0 where
   pub number-is : r .number ≡ temperatureNumber a b c d
   pub place-is : r .place ≡ temperaturePlace a b c d
   pub value-is : r .value ≡ temperatureValue a b c d
 
--- of which series the chooser returns a part, 0 being the empty part
-abbrev pub seriesOf : List ℤ → List ℤ → ℕ → ℕ
-seriesOf measured forecast n =
-    row (not (spans n)) 0
-    (row (serves measured (n + 3)) 1
-    (row (serves forecast (n + 3)) 2
-    0))
+-- the number of the series that the chooser returns means of, and how many of these there are
+abbrev pub seriesNumber : Series → ℕ
+seriesNumber Measured = 1
+seriesNumber Forecast = 2
+seriesNumber Neither = 0
 
-pub record ChooseMet (measured forecast : List ℤ) (n : ℕ) (r : Chosen) (measuredAfter forecastAfter : List ℤ) : Type 0 where
-  pub series-is : r .series ≡ seriesOf measured forecast n
-  pub means-are : r .means ≡ cond (eqb (seriesOf measured forecast n) 0) 0 (n + 3)
+abbrev pub meansOf : Series → ℕ → ℕ
+meansOf Measured count = count
+meansOf Forecast count = count
+meansOf Neither count = 0
+
+pub record ChooseReturned (measured forecast : List ℤ) (n : ℕ) (r : Chosen) (measuredAfter forecastAfter : List ℤ) : Type 0 where
+  pub series-is : r .series ≡ seriesNumber (choice measured forecast n)
+  pub means-are : r .means ≡ meansOf (choice measured forecast n) (n + 3)
   pub measured-stays : measuredAfter ≡ measured
   pub forecast-stays : forecastAfter ≡ forecast
 
 -- ---- Profile value
-pub record ValueMet (k : ℕ) (t : ℤ) (r : Values) : Type 0 where
+pub record ValueReturned (k : ℕ) (t : ℤ) (r : Values) : Type 0 where
   pub number : r .number ≡ valueRefusal k t
   pub place : r .place ≡ 0
-  pub low : r .low ≡ accepted (valueRefusal k t) (valueLow (profileOf k) t) (pos 0)
-  pub high : r .high ≡ accepted (valueRefusal k t) (valueHigh (profileOf k) t) (pos 0)
+  pub low : r .low ≡ ifDone (valueRefusal k t) (valueLow (profileOf k) t) (pos 0)
+  pub high : r .high ≡ ifDone (valueRefusal k t) (valueHigh (profileOf k) t) (pos 0)
   pub encloses : valueRefusal k t ≡ 0 → Enclosed k t
 
-pub record WeightMet (k weekday : ℕ) (t : ℤ) (r : Outcome) : Type 0 where
+pub record WeightReturned (k weekday : ℕ) (t : ℤ) (r : Outcome) : Type 0 where
   pub number : r .number ≡ weightRefusal k weekday t
   pub place : r .place ≡ 0
-  pub weight : r .value ≡ accepted (weightRefusal k weekday t) (weightOf k weekday t) 0
+  pub weight : r .value ≡ ifDone (weightRefusal k weekday t) (weightOf k weekday t) 0
   pub floored : weightRefusal k weekday t ≡ 0 → floorWeight k weekday t ≡ pos (r .value)
   pub least : weightRefusal k weekday t ≡ 0 → weightLeast ≤ r .value
   pub most : weightRefusal k weekday t ≡ 0 → r .value ≤ weightMost
 
-pub record WeightsMet (profile weekday : ℕ) (means : List ℤ) (before : List ℕ) (r : Outcome) (after : List ℕ) (meansAfter : List ℤ) : Type 0 where
+pub record WeightsReturned (profile weekday : ℕ) (means : List ℤ) (before : List ℕ) (r : Outcome) (after : List ℕ) (meansAfter : List ℤ) : Type 0 where
   pub number-is : r .number ≡ outcome profile weekday means before .number
   pub place-is : r .place ≡ outcome profile weekday means before .place
   pub value-is : r .value ≡ 0
@@ -77,33 +77,33 @@ pub record WeightsMet (profile weekday : ℕ) (means : List ℤ) (before : List 
   pub means-stay : meansAfter ≡ means
 
 -- ---- Account and its calls: the number that the table gives, and the account after the call, `done` where the number is 0
-pub record AccountMet (table : Account → ℕ) (done : Account → Account) (before : Account) (r : ℕ) (after : Account) : Type 0 where
+pub record AccountReturned (table : Account → ℕ) (done : Account → Account) (before : Account) (r : ℕ) (after : Account) : Type 0 where
   pub answers : r ≡ table before
-  pub leaves : after ≡ account.left (table before) (done before) before
+  pub leaves : after ≡ ifDone (table before) (done before) before
 
-pub record StatementMet (before : Account) (lent : Outputs) (r : Outcome) (after : Account) (out : Outputs) : Type 0 where
+pub record StatementReturned (before : Account) (lent : Outputs) (r : Outcome) (after : Account) (out : Outputs) : Type 0 where
   pub answers : r .number ≡ statementNumber before lent
   pub place : r .place ≡ 0
-  pub counts : r .value ≡ cond (eqb (statementNumber before lent) 0) (length (parts (before .weights) (shown before))) 0
+  pub counts : r .value ≡ ifDone (statementNumber before lent) (length (parts (before .weights) (shown before))) 0
   pub stays : after ≡ before
-  pub writes : out ≡ left (statementNumber before lent) (written (days before) (parts (before .weights) (shown before))) lent
+  pub writes : out ≡ outputsAfter (statementNumber before lent) (written (days before) (parts (before .weights) (shown before))) lent
 
 -- ---- Customer value and daily amount
-pub record CustomerMet (energy : ℕ) (w : List ℕ) (r : Outcome) (after : List ℕ) : Type 0 where
+pub record CustomerReturned (energy : ℕ) (w : List ℕ) (r : Outcome) (after : List ℕ) : Type 0 where
   pub answers : r .number ≡ customerRows energy w
   pub place : r .place ≡ 0
-  pub values : r .value ≡ cond (eqb (customerRows energy w) 0) (customerValue energy w) 0
+  pub values : r .value ≡ ifDone (customerRows energy w) (customerValue energy w) 0
   pub stays : after ≡ w
 
-pub record AmountMet (v weight : ℕ) (r : Outcome) : Type 0 where
+pub record AmountReturned (v weight : ℕ) (r : Outcome) : Type 0 where
   pub answers : r .number ≡ amountRows v weight
   pub place : r .place ≡ 0
-  pub values : r .value ≡ cond (eqb (amountRows v weight) 0) (dailyAmount v weight) 0
+  pub values : r .value ≡ ifDone (amountRows v weight) (dailyAmount v weight) 0
 
 -- ---- Case file
-pub record ReadMet (file : List ℕ) (lent : Account) (r : Outcome) (after : Account) (kept : List ℕ) : Type 0 where
+pub record ReadReturned (file : List ℕ) (lent : Account) (r : Outcome) (after : Account) (kept : List ℕ) : Type 0 where
   pub numbers : r .number ≡ faultNumber (verdict file lent)
   pub places : r .place ≡ faultPlace (verdict file lent)
-  pub returns : r .value ≡ cond (eqb (faultNumber (verdict file lent)) 0) (daysOf file) 0
+  pub returns : r .value ≡ ifDone (faultNumber (verdict file lent)) (daysOf file) 0
   pub fills : after ≡ slicesAfter file lent
   pub keeps : kept ≡ file

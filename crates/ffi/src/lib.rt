@@ -10,10 +10,10 @@ use returned::value_low;
 use returned::value_number;
 ghost use Rattle.account.specs.Account.{account};
 ghost use Rattle.account.specs.Calls.{cleared, readingPut, readingTaken, cutPut, cutTaken};
-ghost use Rattle.account.specs.Table.{openNumber, readingNumber, withdrawNumber, cutNumber, uncutNumber};
+ghost use Rattle.account.specs.Refusals.{openNumber, readingNumber, withdrawNumber, cutNumber, uncutNumber};
 ghost use Rattle.statement.specs.Parts.{outputs};
 ghost use Rattle.layout.specs.Text.{LaidOut, TextMet, statementText, refusalText};
-ghost use Rattle.ffi.specs.Calls.{TemperatureMet, ChooseMet, ValueMet, WeightMet, WeightsMet, AccountMet, StatementMet, CustomerMet, AmountMet, ReadMet};
+ghost use Rattle.ffi.specs.Calls.{TemperatureReturned, ChooseReturned, ValueReturned, WeightReturned, WeightsReturned, AccountReturned, StatementReturned, CustomerReturned, AmountReturned, ReadReturned};
 
 // The table's number (0 is done), the place or index that goes with it, and the value; 0 where there is none.
 #[repr(C)]
@@ -50,7 +50,7 @@ pub struct Chosen {
 // The allocation temperature of four daily means, today's first.
 #[no_mangle]
 pub extern "C" fn arvadush_temperature(a: i16, b: i16, c: i16, d: i16) -> Temperature
-    ensures { λ r. ⌜ TemperatureMet a b c d r ⌝ }
+    ensures { λ r. ⌜ TemperatureReturned a b c d r ⌝ }
 {
     let answer = weights::temperature(a, b, c, d);
     Temperature {
@@ -63,7 +63,7 @@ pub extern "C" fn arvadush_temperature(a: i16, b: i16, c: i16, d: i16) -> Temper
 // The means of a span of n days: which series serves, and its first n + 3 means; none where neither does.
 #[no_mangle]
 pub extern "C" fn arvadush_choose<'a>(measured: &'a [i16], forecast: &'a [i16], n: usize) -> Chosen
-    ensures { λ r. ⌜ ChooseMet (now (measured .entry)) (now (forecast .entry)) n r (now (measured .exit)) (now (forecast .exit)) ⌝ }
+    ensures { λ r. ⌜ ChooseReturned (now (measured .entry)) (now (forecast .entry)) n r (now (measured .exit)) (now (forecast .exit)) ⌝ }
 {
     let first = weights::choose(measured, measured, n).len();
     if first != 0 {
@@ -88,7 +88,7 @@ pub extern "C" fn arvadush_choose<'a>(measured: &'a [i16], forecast: &'a [i16], 
 // The profile value at a temperature, low and high.
 #[no_mangle]
 pub extern "C" fn arvadush_value(profile: u8, t: i16) -> Values
-    ensures { λ r. ⌜ ValueMet profile t r ⌝ }
+    ensures { λ r. ⌜ ValueReturned profile t r ⌝ }
 {
     let answer = profile::value(profile, t);
     Values {
@@ -102,7 +102,7 @@ pub extern "C" fn arvadush_value(profile: u8, t: i16) -> Values
 // The weight of one day.
 #[no_mangle]
 pub extern "C" fn arvadush_day_weight(profile: u8, weekday: u8, t: i16) -> Outcome
-    ensures { λ r. ⌜ WeightMet profile weekday t r ⌝ }
+    ensures { λ r. ⌜ WeightReturned profile weekday t r ⌝ }
 {
     returned::weight(profile::day_weight(profile, weekday, t))
 }
@@ -115,7 +115,7 @@ pub extern "C" fn arvadush_weights(
     means: &[i16],
     out: &mut [u32],
 ) -> Outcome
-    ensures { λ r. ⌜ WeightsMet profile weekday (now (means .entry)) (now (out .entry)) r (now (out .exit)) (now (means .exit)) ⌝ }
+    ensures { λ r. ⌜ WeightsReturned profile weekday (now (means .entry)) (now (out .entry)) r (now (out .exit)) (now (means .exit)) ⌝ }
 {
     returned::weights(weights::weights(profile, weekday, means, out))
 }
@@ -123,7 +123,7 @@ pub extern "C" fn arvadush_weights(
 // Clears marks and counts, whatever they held.
 #[no_mangle]
 pub extern "C" fn arvadush_open(weights: &[u32], marks: &mut [u8], counts: &mut [u64]) -> u8
-    ensures { λ r. ⌜ AccountMet openNumber cleared (account (now (weights .entry)) (now (marks .entry)) (now (counts .entry))) r (account (now (weights .exit)) (now (marks .exit)) (now (counts .exit))) ⌝ }
+    ensures { λ r. ⌜ AccountReturned openNumber cleared (account (now (weights .entry)) (now (marks .entry)) (now (counts .entry))) r (account (now (weights .exit)) (now (marks .exit)) (now (counts .exit))) ⌝ }
 {
     account::number_of(account::open(weights, marks, counts))
 }
@@ -137,7 +137,7 @@ pub extern "C" fn arvadush_reading(
     k: usize,
     count: u64,
 ) -> u8
-    ensures { λ r. ⌜ AccountMet (λ a. readingNumber a k count) (λ a. readingPut a k count) (account (now (weights .entry)) (now (marks .entry)) (now (counts .entry))) r (account (now (weights .exit)) (now (marks .exit)) (now (counts .exit))) ⌝ }
+    ensures { λ r. ⌜ AccountReturned (λ a. readingNumber a k count) (λ a. readingPut a k count) (account (now (weights .entry)) (now (marks .entry)) (now (counts .entry))) r (account (now (weights .exit)) (now (marks .exit)) (now (counts .exit))) ⌝ }
 {
     account::number_of(account::reading(weights, marks, counts, k, count))
 }
@@ -150,7 +150,7 @@ pub extern "C" fn arvadush_withdraw(
     counts: &mut [u64],
     k: usize,
 ) -> u8
-    ensures { λ r. ⌜ AccountMet (λ a. withdrawNumber a k) (λ a. readingTaken a k) (account (now (weights .entry)) (now (marks .entry)) (now (counts .entry))) r (account (now (weights .exit)) (now (marks .exit)) (now (counts .exit))) ⌝ }
+    ensures { λ r. ⌜ AccountReturned (λ a. withdrawNumber a k) (λ a. readingTaken a k) (account (now (weights .entry)) (now (marks .entry)) (now (counts .entry))) r (account (now (weights .exit)) (now (marks .exit)) (now (counts .exit))) ⌝ }
 {
     account::number_of(account::withdraw(weights, marks, counts, k))
 }
@@ -158,7 +158,7 @@ pub extern "C" fn arvadush_withdraw(
 // Sets a cut at boundary k.
 #[no_mangle]
 pub extern "C" fn arvadush_cut(weights: &[u32], marks: &mut [u8], counts: &[u64], k: usize) -> u8
-    ensures { λ r. ⌜ AccountMet (λ a. cutNumber a k) (λ a. cutPut a k) (account (now (weights .entry)) (now (marks .entry)) (now (counts .entry))) r (account (now (weights .exit)) (now (marks .exit)) (now (counts .exit))) ⌝ }
+    ensures { λ r. ⌜ AccountReturned (λ a. cutNumber a k) (λ a. cutPut a k) (account (now (weights .entry)) (now (marks .entry)) (now (counts .entry))) r (account (now (weights .exit)) (now (marks .exit)) (now (counts .exit))) ⌝ }
 {
     account::number_of(account::cut(weights, marks, counts, k))
 }
@@ -166,7 +166,7 @@ pub extern "C" fn arvadush_cut(weights: &[u32], marks: &mut [u8], counts: &[u64]
 // Removes the cut at boundary k.
 #[no_mangle]
 pub extern "C" fn arvadush_uncut(weights: &[u32], marks: &mut [u8], counts: &[u64], k: usize) -> u8
-    ensures { λ r. ⌜ AccountMet (λ a. uncutNumber a k) (λ a. cutTaken a k) (account (now (weights .entry)) (now (marks .entry)) (now (counts .entry))) r (account (now (weights .exit)) (now (marks .exit)) (now (counts .exit))) ⌝ }
+    ensures { λ r. ⌜ AccountReturned (λ a. uncutNumber a k) (λ a. cutTaken a k) (account (now (weights .entry)) (now (marks .entry)) (now (counts .entry))) r (account (now (weights .exit)) (now (marks .exit)) (now (counts .exit))) ⌝ }
 {
     account::number_of(account::uncut(weights, marks, counts, k))
 }
@@ -181,7 +181,7 @@ pub extern "C" fn arvadush_statement(
     to: &mut [u16],
     wh: &mut [u64],
 ) -> Outcome
-    ensures { λ r. ⌜ StatementMet (account (now (weights .entry)) (now (marks .entry)) (now (counts .entry))) (outputs (now (from .entry)) (now (to .entry)) (now (wh .entry))) r (account (now (weights .exit)) (now (marks .exit)) (now (counts .exit))) (outputs (now (from .exit)) (now (to .exit)) (now (wh .exit))) ⌝ }
+    ensures { λ r. ⌜ StatementReturned (account (now (weights .entry)) (now (marks .entry)) (now (counts .entry))) (outputs (now (from .entry)) (now (to .entry)) (now (wh .entry))) r (account (now (weights .exit)) (now (marks .exit)) (now (counts .exit))) (outputs (now (from .exit)) (now (to .exit)) (now (wh .exit))) ⌝ }
 {
     returned::statement(statement::statement(weights, marks, counts, from, to, wh))
 }
@@ -189,7 +189,7 @@ pub extern "C" fn arvadush_statement(
 // The customer value of this energy in Wh over these weights, in units of 0.1 Wh.
 #[no_mangle]
 pub extern "C" fn arvadush_customer_value(energy: u64, weights: &[u32]) -> Outcome
-    ensures { λ r. ⌜ CustomerMet energy (now (weights .entry)) r (now (weights .exit)) ⌝ }
+    ensures { λ r. ⌜ CustomerReturned energy (now (weights .entry)) r (now (weights .exit)) ⌝ }
 {
     returned::customer(customer::customer_value(energy, weights))
 }
@@ -197,7 +197,7 @@ pub extern "C" fn arvadush_customer_value(energy: u64, weights: &[u32]) -> Outco
 // The Wh of a day with this weight for a customer with this value.
 #[no_mangle]
 pub extern "C" fn arvadush_daily_amount(value: u64, weight: u32) -> Outcome
-    ensures { λ r. ⌜ AmountMet value weight r ⌝ }
+    ensures { λ r. ⌜ AmountReturned value weight r ⌝ }
 {
     returned::customer(customer::daily_amount(value, weight))
 }
@@ -210,7 +210,7 @@ pub extern "C" fn arvadush_read(
     marks: &mut [u8],
     counts: &mut [u64],
 ) -> Outcome
-    ensures { λ r. ⌜ ReadMet (now (file .entry)) (account (now (weights .entry)) (now (marks .entry)) (now (counts .entry))) r (account (now (weights .exit)) (now (marks .exit)) (now (counts .exit))) (now (file .exit)) ⌝ }
+    ensures { λ r. ⌜ ReadReturned (now (file .entry)) (account (now (weights .entry)) (now (marks .entry)) (now (counts .entry))) r (account (now (weights .exit)) (now (marks .exit)) (now (counts .exit))) (now (file .exit)) ⌝ }
 {
     returned::case(casefile::read_case(file, weights, marks, counts))
 }

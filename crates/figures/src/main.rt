@@ -5,6 +5,10 @@ use profile::Profile;
 use profile::ValueAnswer;
 use weights::TemperatureAnswer;
 ghost use Prim.Native.Nat.{_<_};
+ghost use mathlib.Core.Path.{_≡_};
+ghost use mathlib.Core.Bool.{_&&_};
+ghost use lib.IntN.{pos};
+ghost use lib.Signed.{leZ};
 
 fn word(text: &[u8]) {
     io::write_all(STDOUT_FILENO, text);
@@ -130,8 +134,14 @@ fn values() {
 }
 
 // Whether a value, in units of 10^-9, lies within 0.00001 of 1.
-fn near_one(low: i64, high: i64) {
-    if 999_990_000 <= low && high <= 1_000_010_000 {
+fn near_one(low: i64, high: i64) -> bool
+    ensures { λ r. ⌜ r ≡ (leZ (pos 999990000) low && leZ high (pos 1000010000)) ⌝ }
+{
+    999_990_000 <= low && high <= 1_000_010_000
+}
+
+fn yes_or_no(yes: bool) {
+    if yes {
         word(b"yes");
         return;
     }
@@ -141,7 +151,7 @@ fn near_one(low: i64, high: i64) {
 fn near() {
     word(b"GHD33 at 800 within 0.00001 of 1: ");
     match profile::value(3, 800) {
-        ValueAnswer::Value { low, high } => near_one(low, high),
+        ValueAnswer::Value { low, high } => yes_or_no(near_one(low, high)),
         ValueAnswer::NoProfile => refused(1),
         ValueAnswer::OutOfRange => refused(4),
     }

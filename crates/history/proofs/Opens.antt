@@ -1,6 +1,6 @@
 -- The account stands on weights from the weights call (Profile value: the account "may use only what they promise"): open accepts them,
 -- with any marks and counts of the lengths for them, and demand 3 holds of every list of calls after it. Assumes nothing.
-use Prim.Native.Nat.{ℕ, _+_, _≤_, _<_}
+use Prim.Native.Nat.{ℕ, _+_}
 use mathlib.Core.Path.{_≡_, _∙_}
 use mathlib.Core.Bool.{true}
 use mathlib.Core.List.{List}

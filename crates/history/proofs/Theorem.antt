@@ -8,16 +8,17 @@ use lib.ListN.{length}
 use Rattle.account.specs.declared.Answer.{Answer}
 use Rattle.account.specs.Stands.{Stands, nothing}
 use Rattle.account.specs.Account.{Account, days, shown}
-use Rattle.account.specs.Table.{openNumber}
+use Rattle.account.specs.Refusals.{openNumber}
 use Rattle.account.specs.Calls.{OpenMet, number}
 use Rattle.account.proofs.Rows.{Checked, row-none}
 use Rattle.account.proofs.Keeps.{Holds, shown-inside, open-keeps}
 use Rattle.statement.specs.declared.StatementAnswer.the-variants.{Parts}
 use Rattle.statement.specs.Parts.{Outputs, parts, written}
-use Rattle.statement.specs.Call as statements
+use Rattle.statement.specs.Call as statement
 use Rattle.statement.specs.Call.{StatementMet, unfitOutputs}
-use Rattle.statement.specs.Facts.{Fair, TwoRead}
+use Rattle.statement.specs.Facts.{Fair, TwoReadings}
 use Rattle.statement.proofs.Order.{fair-of-sound}
+use Rattle.statement.proofs.Successive.{successive}
 use Rattle.statement.proofs.Facts.{sums-up, shared, same-energy}
 use Rattle.history.specs.Run.{Event, Step, Run, standing}
 use Rattle.history.specs.Run as run
@@ -28,7 +29,7 @@ use Rattle.history.proofs.Invariant.{along, table-says, leaves-standing
 record By (w : List ℕ) (s : Stands) (m : ℕ) (out : Outputs) : Type 0 where
   counts : m ≡ length (parts w s)
   writes : out ≡ written (length w) (parts w s)
-  two : TwoRead w s
+  two : TwoReadings w s
   fair : Fair w (s .readings)
   inside : (k : ℕ) → s .readings .at k ≡ true → k ≤ length w
 
@@ -60,9 +61,10 @@ module _ (w : List ℕ) (opened : Account) (start : Holds w nothing opened) (es 
         writes =
             λ before lent answer b out among.
             let (a, holds, met) = before-each before (run.statement lent answer b out) among in
-            subst₂ (λ v s. out ≡ statements.left (statements.number answer) (written (length v) (parts v s)) lent)
+            subst₂ (λ v s. out ≡ statement.outputsAfter (statement.number answer) (written (length v) (parts v s)) lent)
             (holds .weighs) (holds .shows) (rw (← (met .answers)) at (met .writes));
         statements = λ before m out g. let by = given before m out g in (by .counts, by .writes);
+        successive = λ before m out g. let by = given before m out g in rw (by .counts, by .writes) (successive w (standing w before) (by .two));
         sums = λ before m out g. let by = given before m out g in rw (by .counts, by .writes) (sums-up w (standing w before) (by .fair) (by .two));
         shares =
             λ before m out g i below.
@@ -74,7 +76,7 @@ module _ (w : List ℕ) (opened : Account) (start : Holds w nothing opened) (es 
             let by₂ = given before₂ m₂ out₂ g₂ in
             rw (by₁ .counts, by₁ .writes, by₂ .counts, by₂ .writes)
             (same-energy w (standing w before₁) (standing w before₂) (by₁ .fair) (by₂ .fair) p q b adj₁ adj₂ same-p same-q
-            (by₁ .inside q (adj₁ .other)) low high mark₁ mark₂);
+            (by₁ .inside q (adj₁ .at-q)) low high mark₁ mark₂);
       }
 
 opens : (before opened : Account) (answer : Answer) → OpenMet before answer opened → number answer ≡ 0 → Holds (before .weights) nothing opened

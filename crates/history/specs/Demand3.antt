@@ -1,26 +1,28 @@
 -- Demand 3: one claim about every list of reading, withdraw, cut, uncut and statement calls on a freshly opened account, and all
--- their answers. `demand3` in proofs/Theorem.antt proves it for every list that runs after an accepted open.
+-- their answers. `demand3` in proofs/Theorem.antt proves it for every list that runs after an accepted open; every list runs.
 use Prim.Native.Nat.{ℕ, _+_, _≤_, _<_}
 use mathlib.Core.Path.{_≡_}
 use mathlib.Core.Bool.{true}
-use mathlib.Core.List.{List, [], _∷_, _++_}
+use mathlib.Core.List.{List, [], _∷_, _++_, map}
 use lib.IntN.{ℤ}
 use lib.ListN.{length, getD}
 use Rattle.weights.specs.declared.WeightsAnswer.{WeightsAnswer}
 use Rattle.weights.specs.Weights.{WeightsMet}
 use Rattle.weights.specs.Weights as weights
 use Rattle.account.specs.Account.{Account, account, markOf}
-use Rattle.account.specs.Table.{openNumber}
+use Rattle.account.specs.Refusals.{openNumber}
 use Rattle.account.specs.declared.Answer.{Answer}
 use Rattle.account.specs.Calls.{OpenMet, number}
 use Rattle.account.specs.Stands.{Stands, lastLessFirst}
 use Rattle.statement.specs.declared.StatementAnswer.the-variants.{Parts}
 use Rattle.statement.specs.Parts.{Outputs, parts, written, marked}
 use Rattle.statement.specs.Shares.{Adjacent, Shared, total, energy}
+use Rattle.statement.specs.Facts.{Successive}
 use Rattle.statement.specs.declared.StatementAnswer.{StatementAnswer}
-use Rattle.statement.specs.Call as statements
-use Rattle.history.specs.Run.{Event, Run, left, answered, tableSays, standing}
+use Rattle.statement.specs.Call as statement
+use Rattle.history.specs.Run.{Event, Run, call, accountAfter, answered, tableSays, standing}
 use Rattle.history.specs.Run as run
+use Rattle.history.specs.History.{Call}
 
 -- e is the event of the list that comes after `before`
 abbrev pub Among : List Event → List Event → Event → Type 0
@@ -28,7 +30,7 @@ Among es before e = (rest : List Event) × (es ≡ before ++ (e ∷ rest))
 
 -- the event of the list that comes after `before` is a statement that was given: m parts, written to `out`
 abbrev pub Given : List Event → List Event → ℕ → Outputs → Type 0
-Given es before m out = (lent : Outputs) × (left : Account) × Among es before (run.statement lent (Parts m) left out)
+Given es before m out = (lent : Outputs) × (after : Account) × Among es before (run.statement lent (Parts m) after out)
 
 -- the account's slices are those that what stands has: its weights, and the marks and counts of boundaries 0 to n and of no others
 pub record Carries (w : List ℕ) (s : Stands) (a : Account) : Type 0 where
@@ -40,16 +42,19 @@ pub record Carries (w : List ℕ) (s : Stands) (a : Account) : Type 0 where
 
 pub record Demand3 (w : List ℕ) (es : List Event) : Type 0 where
   -- "A call is refused exactly when and as the table, applied to what stands, says."
-  pub refusals : (before : List Event) (e : Event) → Among es before e → answered e ≡ tableSays (length w) (standing w before) e
+  pub refusals : (before : List Event) (e : Event) → Among es before e → answered e ≡ tableSays (length w) (standing w before) (call e)
   -- "... and as": what the table says of memory. The account's slices are left as its calls so far make it stand, and a statement's
   -- outputs are the rule's, zero (11) or untouched (3).
-  pub leaves : (before : List Event) (e : Event) → Among es before e → Carries w (standing w (before ++ (e ∷ []))) (left e)
+  pub leaves : (before : List Event) (e : Event) → Among es before e → Carries w (standing w (before ++ (e ∷ []))) (accountAfter e)
   pub writes : (before : List Event) (lent : Outputs) (answer : StatementAnswer) (a : Account) (out : Outputs) →
       Among es before (run.statement lent answer a out) →
-      out ≡ statements.left (statements.number answer) (written (length w) (parts w (standing w before))) lent
+      out ≡ statement.outputsAfter (statement.number answer) (written (length w) (parts w (standing w before))) lent
   -- "Every statement given has the number of parts, and the from, to and Wh of each, that the paper's rule gives for what then stands."
   pub statements : (before : List Event) (m : ℕ) (out : Outputs) → Given es before m out →
       (m ≡ length (parts w (standing w before))) × (out ≡ written (length w) (parts w (standing w before)))
+  -- "Parts run between successive marked boundaries from the first reading to the last."
+  pub successive : (before : List Event) (m : ℕ) (out : Outputs) → Given es before m out →
+      Successive (length w) (standing w before) out m
   -- "Its parts add up exactly to the last standing reading less the first."
   pub sums : (before : List Event) (m : ℕ) (out : Outputs) → Given es before m out →
       total out m ≡ lastLessFirst (length w) (standing w before .readings)
@@ -60,7 +65,7 @@ pub record Demand3 (w : List ℕ) (es : List Event) : Type 0 where
   -- between the earlier of them and that boundary is the same in both."
   pub boundaries : (before₁ : List Event) (m₁ : ℕ) (out₁ : Outputs) → Given es before₁ m₁ out₁ →
       (before₂ : List Event) (m₂ : ℕ) (out₂ : Outputs) → Given es before₂ m₂ out₂ →
-      (p q b : ℕ) → Adjacent (standing w before₁ .readings) p q → Adjacent (standing w before₂ .readings) p q →
+      (p q b : ℕ) → Adjacent (standing w before₁ .readings .at) p q → Adjacent (standing w before₂ .readings .at) p q →
       standing w before₁ .readings .count p ≡ standing w before₂ .readings .count p →
       standing w before₁ .readings .count q ≡ standing w before₂ .readings .count q →
       p ≤ b → b ≤ q → marked (standing w before₁) b ≡ true → marked (standing w before₂) b ≡ true →
@@ -71,6 +76,10 @@ abbrev pub Claim : Type 0
 Claim =
     (before opened : Account) (answer : Answer) → OpenMet before answer opened → number answer ≡ 0 →
     (es : List Event) → Run opened es → Demand3 (before .weights) es
+
+-- "... for every list": any calls, with any arguments and any lent outputs, run in this order, on any account. (proofs/EveryList, `every-list-runs`)
+abbrev pub EveryListRuns : Type 0
+EveryListRuns = (a : Account) (cs : List Call) → (es : List Event) × Run a es × (map call es ≡ cs)
 
 -- "... over weights from demand 2": weights that the weights call gives are ones that open accepts, with any marks and counts of the lengths
 -- for them.

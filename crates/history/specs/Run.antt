@@ -1,14 +1,13 @@
 -- A run of the calls (Account and its calls): "each is lent the same weights, and the account's other slices as the call before left
--- them." Every step is the contract record of the function that is called, whatever it is given.
+-- them." Every step is the contract record of the function that is called, whatever it is given (specs/Tied.antt: its own contract).
 use Prim.Native.Nat.{ℕ}
-use mathlib.Core.Bool.{Bool}
 use mathlib.Core.List.{List, [], _∷_, map}
 use lib.ListN.{length}
 use Rattle.account.specs.declared.Answer.{Answer}
 use Rattle.account.specs.Stands.{Stands}
 use Rattle.account.specs.Account.{Account}
 use Rattle.profile.specs.Rows.{row}
-use Rattle.account.specs.Table.{readingRows, withdrawRows, cutRows, uncutRows}
+use Rattle.account.specs.Refusals.{readingRows, withdrawRows, cutRows, uncutRows}
 use Rattle.account.specs.Calls as calls
 use Rattle.account.specs.Calls.{ReadingMet, WithdrawMet, CutMet, UncutMet}
 use Rattle.statement.specs.declared.StatementAnswer.{StatementAnswer}
@@ -26,21 +25,21 @@ pub data Event : Type 0 where
   uncut : (k : ℕ) (answer : Answer) (left : Account) → Event
   statement : (lent : Outputs) (answer : StatementAnswer) (left : Account) (out : Outputs) → Event
 
--- the call alone, with its arguments
+-- the call alone, as the list has it
 abbrev pub call : Event → Call
 call (reading k v r a) = Call.reading k v
 call (withdraw k r a) = Call.withdraw k
 call (cut k r a) = Call.cut k
 call (uncut k r a) = Call.uncut k
-call (statement o r a e) = Call.statement
+call (statement o r a e) = Call.statement o
 
 -- the account as the call left it
-abbrev pub left : Event → Account
-left (reading k v r a) = a
-left (withdraw k r a) = a
-left (cut k r a) = a
-left (uncut k r a) = a
-left (statement o r a e) = a
+abbrev pub accountAfter : Event → Account
+accountAfter (reading k v r a) = a
+accountAfter (withdraw k r a) = a
+accountAfter (cut k r a) = a
+accountAfter (uncut k r a) = a
+accountAfter (statement o r a e) = a
 
 -- the number that the call answered
 abbrev pub answered : Event → ℕ
@@ -51,12 +50,12 @@ answered (uncut k r a) = calls.number r
 answered (statement o r a e) = statements.number r
 
 -- the number that the table, applied to what stands, gives the call over n days: 3 and 5 of the account cannot arise after open
-abbrev pub tableSays : ℕ → Stands → Event → ℕ
-tableSays n s (reading k v r a) = readingRows n s k v
-tableSays n s (withdraw k r a) = withdrawRows n s k
-tableSays n s (cut k r a) = cutRows n s k
-tableSays n s (uncut k r a) = uncutRows n s k
-tableSays n s (statement o r a e) = row (unfitOutputs n o) 3 (statementRows n s)
+abbrev pub tableSays : ℕ → Stands → Call → ℕ
+tableSays n s (Call.reading k v) = readingRows n s k v
+tableSays n s (Call.withdraw k) = withdrawRows n s k
+tableSays n s (Call.cut k) = cutRows n s k
+tableSays n s (Call.uncut k) = uncutRows n s k
+tableSays n s (Call.statement lent) = row (unfitOutputs n lent) 3 (statementRows n s)
 
 -- the call meets its contract on the account that it is lent
 abbrev pub Step : Account → Event → Type 0
@@ -69,7 +68,7 @@ Step a (statement o r b e) = StatementMet a o r b e
 -- each call gets the account as the one before left it
 abbrev pub Run : Account → List Event → Type 0
 Run a [] = Unit {0}
-Run a (e ∷ es) = Step a e × Run (left e) es
+Run a (e ∷ es) = Step a e × Run (accountAfter e) es
 
 -- what stands after these events, from their calls and arguments alone
 abbrev pub standing : List ℕ → List Event → Stands

@@ -1,8 +1,8 @@
 -- The decimal digits of a number: the fewest that hold it are as many as `places` counts, at most 20 for 64 bits. Assumes nothing.
 use mathlib.Core.Path.{_≡_, refl, sym, ap, _∙_}
 use mathlib.Core.Bool.{Bool, true, false, cond}
-use mathlib.Core.List.{List, [], _∷_, _++_}
-use Prim.Native.Nat.{ℕ, zero, suc, _+_, _-_, _*_, _/_, _%_, _^_, _≤_, _<_}
+use mathlib.Core.List.{[], _∷_}
+use Prim.Native.Nat.{ℕ, zero, suc, _-_, _*_, _/_, _%_, _^_, _≤_, _<_}
 use native.Mathlib.Nat.{div-lt-iff-lt-mul, le-div-iff-mul-le, pow-suc, one-le-pow, pow-le-pow-right, le-of-suc-le-suc}
 use native.Mathlib.Decide.{decLe}
 use native.Mathlib.Numerals.{add-one}
@@ -28,7 +28,7 @@ places-is (suc more) (suc k) n h most least =
     (places-is more k (n / 10) (le-of-suc-le-suc h) (div-lt-iff-lt-mul (lit< tt) .1 high)
     (λ pos. le-div-iff-mul-le (lit< tt) .1 low)))
 
-length-digits : (k n : ℕ) → length (digits 10 k n) ≡ k
+pub length-digits : (k n : ℕ) → length (digits 10 k n) ≡ k
 length-digits zero n = refl
 length-digits (suc k) n = length-append (digits 10 k (n / 10)) (glyph (n % 10) ∷ []) ∙ add-one (length (digits 10 k (n / 10))) ∙ ap suc (length-digits k (n / 10))
 

@@ -1,5 +1,5 @@
 -- No text of a statement or a refusal is longer than `textMost` (Case file, the program's output). Assumes nothing.
-use Prim.Native.Nat.{ℕ, zero, suc, _+_, _*_, _≤_}
+use Prim.Native.Nat.{ℕ, zero, suc, _*_, _≤_}
 use mathlib.Core.Path.{_≡_, refl}
 use mathlib.Core.Bool.{Bool, true, false, cond, _||_}
 use mathlib.Core.List.{List, []}
@@ -12,7 +12,7 @@ use Rattle.account.specs.Account.{Account, days, shown}
 use Rattle.statement.specs.Parts.{Outputs, parts, written}
 use Rattle.statement.specs.Shares.{total}
 use Rattle.layout.specs.Text.{lineOf, partLines, partsText, statementText, refusalText}
-use Rattle.layout.specs.Accounts.{accountNumber, accountText, textMost}
+use Rattle.layout.specs.Accounts.{accountNumber, textMost, TextFits}
 use Rattle.layout.proofs.Decimal.{decimal-most}
 
 pub refusal-most : (number place : ℕ) → length (refusalText number place) ≤ textMost
@@ -47,7 +47,7 @@ statement-most o m = by (eqb m 0) (ltb spanMost m) refl _ _ _ _
 abbrev given : Account → List ℕ
 given a = statementText (written (days a) (parts (a .weights) (shown a))) (length (parts (a .weights) (shown a)))
 
-pub account-most : (a : Account) → length (accountText a) ≤ textMost
+pub account-most : TextFits
 account-most a =
     either (eqb (accountNumber a) 0) (given a) (refusalText (accountNumber a) 0)
     (statement-most (written (days a) (parts (a .weights) (shown a))) (length (parts (a .weights) (shown a))))

@@ -1,11 +1,11 @@
 -- One-step laws for a pass over the parts: whether some part holds a test, the total, the lines. Assumes nothing.
 use mathlib.Core.Path.{_≡_, refl}
 use mathlib.Core.Bool.{Bool, _||_}
-use mathlib.Core.List.{List, [], _++_}
+use mathlib.Core.List.{[], _++_}
 use Prim.Native.Nat.{ℕ, _+_}
 use native.Mathlib.Numerals.{add-one}
 use lib.ListN.{getD}
-use Rattle.account.specs.Boundaries.{some}
+use Rattle.account.specs.Below.{some}
 use Rattle.statement.specs.Parts.{Outputs}
 use Rattle.statement.specs.Shares.{total}
 use Rattle.layout.specs.Text.{partLines, lineOf}

@@ -1,17 +1,16 @@
 -- The text of an account, by what the statement call answers (Case file). Assumes nothing.
 use Prim.Native.Nat.{ℕ, _<_, _≤_}
 use mathlib.Core.Path.{_≡_, sym, ap, ap₂, _∙_}
-use mathlib.Core.Bool.{cond, and-false, or-false}
+use mathlib.Core.Bool.{and-false, or-false}
 use mathlib.Core.List.{List, _++_}
 use native.Mathlib.Decide.{ℕ-discrete}
 use borrow.Author.Tests.{lt-leb, eq-eqb, ne-eqb}
-use lib.Dec.{eqb}
 use lib.ListN.{length, take, drop}
 use lib.Seq.{length-take-le, take-at}
 use Rattle.profile.specs.Limits.{spanMost}
 use Rattle.account.specs.Account.{Account, days, shown}
 use Rattle.statement.specs.Parts.{Outputs, parts, written}
-use Rattle.statement.specs.Call.{StatementMet, number, partCount, statementNumber, left}
+use Rattle.statement.specs.Call.{StatementMet, number, partCount, statementNumber, outputsAfter}
 use Rattle.statement.specs.declared.StatementAnswer.{StatementAnswer}
 use Rattle.layout.specs.Text.{statementText, refusalText}
 use Rattle.layout.specs.Accounts.{accountNumber, accountText, answeredText}
@@ -31,7 +30,7 @@ module _ (a : Account) (o : Outputs) (f : length (o .from) ≡ days a) (t : leng
   given-says : statementNumber a o ≡ 0 → statementText out (partCount answer) ≡ statementText (written (days a) (parts (a .weights) (shown a))) (length (parts (a .weights) (shown a)))
   given-says done =
       let count : partCount answer ≡ length (parts (a .weights) (shown a)) = met .counts ∙ simp done in
-      ap₂ statementText (met .writes ∙ ap (λ (n : ℕ). left n (written (days a) (parts (a .weights) (shown a))) o) done) count
+      ap₂ statementText (met .writes ∙ ap (λ (n : ℕ). outputsAfter n (written (days a) (parts (a .weights) (shown a))) o) done) count
 
   -- what the call answered and wrote is what is printed of the account
   pub answered-says : answeredText answer out ≡ accountText a

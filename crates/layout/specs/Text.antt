@@ -8,7 +8,7 @@ use lib.Dec.{ltb, eqb}
 use lib.ListN.{length, getD}
 use lib.Seq.{sets}
 use Rattle.io.specs.Digits.{digits}
-use Rattle.account.specs.Boundaries.{some}
+use Rattle.account.specs.Below.{some}
 use Rattle.account.specs.Account.{energyMost}
 use Rattle.profile.specs.Limits.{spanMost}
 use Rattle.statement.specs.Parts.{Outputs}

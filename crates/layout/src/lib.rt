@@ -11,7 +11,7 @@ ghost use Prim.Native.Nat.{ℕ, _+_, _*_, _<_, _≤_, _^_};
 ghost use lib.Dec.{ltb};
 ghost use lib.ListN.{length, getD};
 ghost use Rattle.profile.specs.Limits.{spanMost};
-ghost use Rattle.account.specs.Boundaries.{some};
+ghost use Rattle.account.specs.Below.{some};
 ghost use Rattle.account.specs.Account.{energyMost, account};
 ghost use Rattle.statement.specs.Parts.{outputs};
 ghost use Rattle.statement.specs.Shares.{total};

@@ -1,12 +1,12 @@
 -- The power of a ratio at most one is at most one, and that of one is one: `Profile value`.
 -- Assumes nothing.
 use mathlib.Core.Path.{_≡_, refl}
-use mathlib.Core.Bool.{Bool, true, false}
+use mathlib.Core.Bool.{Bool, true, false, cond}
 use Prim.Native.Nat.{ℕ, zero, suc, _*_, _/_, _%_, _^_, _≤_, _<_}
 use native.Mathlib.Nat.{le-refl, mul-comm, mul-le-mul, mul-le-mul-right}
 use lib.Dec.{eqb}
 use Rattle.power.specs.declared.rounded.Rounding.{Rounding}
-use Rattle.power.specs.Power.{pick, one, quotient, product, nextRoot, raise, climb, power}
+use Rattle.power.specs.Power.{one, quotient, product, nextRoot, raise, climb, power}
 use Rattle.power.proofs.Quotient.{quotient-le, quotient-exact}
 use Rattle.power.proofs.Root.{one-pos, root-le, root-exact}
 
@@ -23,9 +23,9 @@ module _ (way : Rounding) where
   unfolding nextRoot
   next-le r h = root-le way (r * one) one (mul-le-mul-right one h)
 
-  pub pick-le : (b : Bool) (p r : ℕ) → p ≤ one → r ≤ one → pick b (product way p r) p ≤ one
-  pick-le true p r hp hr = product-le p r hp hr
-  pick-le false p r hp hr = hp
+  pub cond-le : (b : Bool) (p r : ℕ) → p ≤ one → r ≤ one → cond b (product way p r) p ≤ one
+  cond-le true p r hp hr = product-le p r hp hr
+  cond-le false p r hp hr = hp
 
   pub raise-le : (n r p : ℕ) → r ≤ one → p ≤ one → raise way n r p ≤ one
   unfolding raise
@@ -35,7 +35,7 @@ module _ (way : Rounding) where
   pub climb-le : (k r p c : ℕ) → r ≤ one → p ≤ one → climb way k r p c ≤ one
   unfolding climb
   climb-le zero r p c hr hp = hp
-  climb-le (suc k) r p c hr hp = climb-le k (nextRoot way r) _ c (next-le r hr) (pick-le (eqb (c / 2 ^ k % 2) 1) p (nextRoot way r) hp (next-le r hr))
+  climb-le (suc k) r p c hr hp = climb-le k (nextRoot way r) _ c (next-le r hr) (cond-le (eqb (c / 2 ^ k % 2) 1) p (nextRoot way r) hp (next-le r hr))
 
   pub power-le : (r c : ℕ) → r ≤ one → power way r c ≤ one
   unfolding power
@@ -52,9 +52,9 @@ module _ (way : Rounding) where
   unfolding nextRoot
   next-one = root-exact way one
 
-  pick-one : (b : Bool) → pick b (product way one one) one ≡ one
-  pick-one true = product-one
-  pick-one false = refl
+  cond-one : (b : Bool) → cond b (product way one one) one ≡ one
+  cond-one true = product-one
+  cond-one false = refl
 
   raise-one : (n : ℕ) → raise way n one one ≡ one
   unfolding raise
@@ -64,7 +64,7 @@ module _ (way : Rounding) where
   climb-one : (k c : ℕ) → climb way k one one c ≡ one
   unfolding climb
   climb-one zero c = refl
-  climb-one (suc k) c = rw (next-one, pick-one (eqb (c / 2 ^ k % 2) 1)) (climb-one k c)
+  climb-one (suc k) c = rw (next-one, cond-one (eqb (c / 2 ^ k % 2) 1)) (climb-one k c)
 
   pub power-one : (c : ℕ) → power way one c ≡ one
   unfolding power

@@ -1,6 +1,7 @@
 -- The power by roots stands to the exact power as its rounding says: `Profile value`.
 -- Assumes nothing.
 use mathlib.Core.Path.{_≡_, subst}
+use mathlib.Core.Bool.{cond}
 use Prim.Native.Nat.{ℕ, zero, suc, _+_, _*_, _/_, _%_, _^_, _≤_, _<_}
 use native.Mathlib.Nat.{pow-zero, pow-suc, zero-mul, one-mul, mul-comm, mul-assoc, mul-left-comm, one-le-pow, mod-one}
 use native.Mathlib.Numerals.{one-add}
@@ -8,7 +9,7 @@ use native.Mathlib.Omega.{arith}
 use lib.Dec.{eqb}
 use lib.Pow.{pow-add, mod-pow-add}
 use Rattle.power.specs.declared.rounded.Rounding.{Rounding}
-use Rattle.power.specs.Power.{pick, one, product, nextRoot, raise, climb, power}
+use Rattle.power.specs.Power.{one, product, nextRoot, raise, climb, power}
 use Rattle.power.proofs.Powers.{mul-pow, pow-mul, pow-one, pow-double}
 use Rattle.power.proofs.Way.{Rounded, same, chain, times, cancel, raised, lowered, eased}
 use Rattle.power.proofs.Quotient.{quotient-rounded}
@@ -52,7 +53,7 @@ raise-reached zero r p = none 1 p
 raise-reached (suc n) r p = rw (← one-add n) (joined (once p) (raise-reached n r _))
 
 -- d is a bit of the exponent
-bit-reached : {way : Rounding} {r : ℕ} (K d p : ℕ) → d < 2 → Reached way K (d * K) p (pick (eqb d 1) (product way p r) p) r
+bit-reached : {way : Rounding} {r : ℕ} (K d p : ℕ) → d < 2 → Reached way K (d * K) p (cond (eqb d 1) (product way p r) p) r
 bit-reached K zero p h = rw zero-mul (none K p)
 bit-reached {way} {r} K (suc zero) p h = simp one-mul (simp one-mul at (again {way = way} {r = r} K (once p)))
 bit-reached K (suc (suc d)) p h = absurd (omega arith)

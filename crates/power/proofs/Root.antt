@@ -1,7 +1,7 @@
 -- The square root rounded either way, for `Profile value`, by Newton's iteration from above: how it stands to the exact one, and that no whole number lies between.
 -- Assumes nothing.
 use mathlib.Core.Path.{_≡_, refl}
-use mathlib.Core.Bool.{Bool, true, false}
+use mathlib.Core.Bool.{Bool, true, false, cond}
 use Prim.Native.Nat.{ℕ, zero, suc, _+_, _-_, _*_, _/_, _≤_, _<_}
 use native.Mathlib.Nat.{le-refl, le-trans, le-of-lt, le-antisymm, lt-of-lt-of-le, lt-of-le-of-lt, lt-of-not-le, not-le-of-lt, mul-comm, mul-add, add-mul, add-comm, add-assoc, add-left-comm, one-mul, mul-le-mul, mul-le-mul-right, div-lt-iff-lt-mul, lt-div-mul-add}
 use native.Mathlib.Decide.{decLe}
@@ -10,7 +10,7 @@ use lib.Dec.{ltb}
 use borrow.Author.Tests.{ltb-true, ltb-false}
 use Rattle.power.specs.declared.rounded.Rounding.{Rounding}
 use Rattle.power.specs.declared.rounded.Rounding.the-variants.{Down, Up}
-use Rattle.power.specs.Power.{pick, one, newton, sqrtDown, RootDown, sqrtUp, RootUp, Roots, squareRoot}
+use Rattle.power.specs.Power.{one, newton, sqrtDown, RootDown, sqrtUp, RootUp, Roots, squareRoot}
 use Rattle.power.proofs.Way.{Rounded, below, above}
 
 -- with b = a + d, a² + b² is 2ab and d² more
@@ -93,7 +93,7 @@ root-up x = turn (ltb (d * d) x) refl
     d : ℕ
     d = sqrtDown x
 
-    turn : (b : Bool) → ltb (d * d) x ≡ b → RootUp x (pick b (d + 1) d)
+    turn : (b : Bool) → ltb (d * d) x ≡ b → RootUp x (cond b (d + 1) d)
     turn true e =
         record {
           high = le-of-lt (root-down x .next);

@@ -1,12 +1,13 @@
 -- One turn of each loop of `Profile value`, and its end, in the words of the definitions.
 -- Assumes nothing.
 use mathlib.Core.Path.{_≡_, refl}
+use mathlib.Core.Bool.{cond}
 use Prim.Native.Nat.{ℕ, zero, suc, _-_, _/_, _%_, _^_, _≤_, _<_}
 use native.Mathlib.Omega.{arith}
 use lib.Dec.{eqb}
 use borrow.Author.Tests.{eq-eqb, ne-eqb}
 use Rattle.power.specs.declared.rounded.Rounding.{Rounding}
-use Rattle.power.specs.Power.{pick, product, nextRoot, raise, climb}
+use Rattle.power.specs.Power.{product, nextRoot, raise, climb}
 
 module _ (way : Rounding) where
   pub raise-done : (n r p : ℕ) → n ≤ 0 → raise way n r p ≡ p
@@ -26,7 +27,7 @@ module _ (way : Rounding) where
   climb-done zero r p c h = refl
   climb-done (suc k) r p c h = absurd (omega arith)
 
-  climb-turn : (k r p c : ℕ) → 0 < k → climb way k r p c ≡ climb way (k - 1) (nextRoot way r) (pick (eqb (c / 2 ^ (k - 1) % 2) 1) (product way p (nextRoot way r)) p) c
+  climb-turn : (k r p c : ℕ) → 0 < k → climb way k r p c ≡ climb way (k - 1) (nextRoot way r) (cond (eqb (c / 2 ^ (k - 1) % 2) 1) (product way p (nextRoot way r)) p) c
   unfolding climb
   climb-turn zero r p c h = absurd (omega arith)
   climb-turn (suc k) r p c h =

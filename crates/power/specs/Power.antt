@@ -1,16 +1,11 @@
 -- `Profile value`: "Put one = 2^30." The exponent, the power of a ratio by roots, its two bounds, and that they enclose the exact power.
--- Nothing here is meant to be seen through by a caller: proofs/Laws has what is known of it.
+-- A caller's proof needs nothing of how they are computed: proofs/Laws has what is known of them.
 use mathlib.Core.Path.{_≡_}
-use mathlib.Core.Bool.{Bool, true, false}
+use mathlib.Core.Bool.{true, false, cond}
 use Prim.Native.Nat.{ℕ, zero, suc, _+_, _-_, _*_, _/_, _%_, _^_, _≤_, _<_}
 use lib.Dec.{ltb, eqb}
 use Rattle.power.specs.declared.rounded.Rounding.{Rounding}
 use Rattle.power.specs.declared.rounded.Rounding.the-variants.{Down, Up}
-
--- a where the test holds, else b
-abbrev pub pick : Bool → ℕ → ℕ → ℕ
-pick true a b = a
-pick false a b = b
 
 unfoldable pub one : ℕ
 one = 2 ^ 30
@@ -54,7 +49,7 @@ pub record RootDown (x s : ℕ) : Type 0 where
 unfoldable pub sqrtUp : ℕ → ℕ
 sqrtUp x =
     let s : ℕ = sqrtDown x in
-    pick (ltb (s * s) x) (s + 1) s
+    cond (ltb (s * s) x) (s + 1) s
 
 -- s is the square root of x rounded up
 pub record RootUp (x s : ℕ) : Type 0 where
@@ -89,7 +84,7 @@ unfoldable pub climb : Rounding → (k r p c : ℕ) → ℕ
 climb way zero r p c = p
 climb way (suc k) r p c =
     let root : ℕ = nextRoot way r in
-    climb way k root (pick (eqb (c / 2 ^ k % 2) 1) (product way p root) p) c
+    climb way k root (cond (eqb (c / 2 ^ k % 2) 1) (product way p root) p) c
 
 -- "The power of r with exponent c starts at one and is multiplied by r as often as c holds 2^24 whole. Root 0 is r"
 unfoldable pub power : Rounding → (r c : ℕ) → ℕ
@@ -127,7 +122,7 @@ Enclosing = (N M C : ℕ) → 0 < M → N ≤ M → Encloses N M C (pLow N M C) 
 
 -- p where N / M is a ratio at most one, and 0 where it is none
 unfoldable pub ofRatio : (N M p : ℕ) → ℕ
-ofRatio N M p = pick (eqb M 0) 0 (pick (ltb M N) 0 p)
+ofRatio N M p = cond (eqb M 0) 0 (cond (ltb M N) 0 p)
 
 unfoldable pub lowerOf : (N M C : ℕ) → ℕ
 lowerOf N M C = ofRatio N M (pLow N M C)

@@ -12,9 +12,9 @@ use mir.Syntax.{w64}
 use mir.Val.{SFits}
 use Rattle.power.specs.Power.{one, quotient, upward}
 use Rattle.profile.specs.Limits.{inRange, coldest, weightLeast, weightMost, profileCount}
-use Rattle.profile.specs.Table.{profileOf}
+use Rattle.profile.specs.Coefficients.{profileOf}
 use Rattle.profile.specs.Value.{cold, lowPower, highPower, sLow, sHigh, line, linear, valueLow, valueHigh}
-use Rattle.profile.specs.Weight.{floorℤ, factorOf, floorWeight, weightOf}
+use Rattle.profile.specs.Weight.{floorℤ, factorOf, floorWeight, weightOf, WholeTable}
 use Rattle.profile.specs.declared.Profile.{Profile}
 use Rattle.profile.proofs.Integer.{parts, by-parts, less-sum, le-trans, sum-le, scale-le, fall-le, larger-le, floor-le, natural, at-least, at-most, sfits}
 use Rattle.profile.proofs.Range.{cold-le, le-warm}
@@ -144,15 +144,17 @@ module _ (k : ℕ) (t : ℤ) (h : k < profileCount) (r : inRange t ≡ true) whe
         le-trans (floor-le 10_000_000 (lit< tt) (scale-le (factorOf k w) low-most)) (profile-tested k h .light w g)
 
     -- the weight is the floor itself
-    pub weight-floor : floorWeight k w t ≡ pos (weightOf k w t)
+    weight-floor : floorWeight k w t ≡ pos (weightOf k w t)
     unfolding weightOf
     weight-floor = natural weightLeast heavy
 
--- Every weight that the table can give is 1 to 6,999,999.
-pub weight-range : (k w : ℕ) (t : ℤ) → k < profileCount → w < 7 → inRange t ≡ true → (weightLeast ≤ weightOf k w t) × (weightOf k w t ≤ weightMost)
+pub whole-table : WholeTable
 unfolding weightOf
-weight-range k w t h g r =
-    (at-least weightLeast (heavy k t h r w g), at-most weightLeast weightMost (heavy k t h r w g) (light k t h r w g))
+whole-table k w t h g r = (
+  weight-floor k t h r w g,
+  at-least weightLeast (heavy k t h r w g),
+  at-most weightLeast weightMost (heavy k t h r w g) (light k t h r w g),
+)
 
 -- the sums that the code forms are the values
 pub low-sum : (p : Profile) (t : ℤ) {s : ℕ} {x y : ℤ} → s ≡ sLow p t → x ≡ pos (p .a * 100 * s / 2 ^ 30) → y ≡ linear p t → x +ℤ y ≡ valueLow p t

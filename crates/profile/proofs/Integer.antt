@@ -2,8 +2,8 @@
 -- Sum, product, order and floor in these parts, and when a sum or a product fits a width. Assumes nothing.
 use mathlib.Core.Path.{_≡_, _∙_, refl, ap}
 use mathlib.Core.Bool.{Bool, true, false, not, cond}
-use Prim.Native.Nat.{ℕ, zero, suc, _+_, _*_, _-_, _/_, _≤_, _<_, _^_}
-use native.Mathlib.Nat.{mul-le-mul-left, mul-le-mul-right, zero-mul, zero-add, lt-trans, lt-suc-self, le-div-iff-mul-le, div-mul-le-self}
+use Prim.Native.Nat.{ℕ, zero, suc, _+_, _*_, _-_, _/_, _%_, _≤_, _<_, _^_}
+use native.Mathlib.Nat.{mul-le-mul-left, mul-le-mul-right, zero-mul, zero-add, lt-trans, lt-suc-self, le-div-iff-mul-le, div-mul-le-self, mod-lt, div-add-mod'}
 use native.Mathlib.Omega.{arith}
 use lib.Dec.{T, leb, ltb, leb→le, le→leb, ltb→lt, nltb→le, nleb→lt}
 use lib.IntN.{ℤ, pos, negsuc, negℤ, natAbs, subℕ, _+ℤ_, _-ℤ_, _*ℤ_}
@@ -12,7 +12,7 @@ use mir.Syntax.{Width, w64}
 use mir.Val.{SFits, hbits, ofZ, toZ}
 use mir.Facts.{toZ-ofZ, sfits-widen}
 use Rattle.profile.specs.Value.{larger}
-use Rattle.profile.specs.Weight.{floorℤ}
+use Rattle.profile.specs.Weight.{floorℤ, FloorIs}
 
 abbrev pub above : ℤ → ℕ
 above (pos n) = n
@@ -194,3 +194,29 @@ widened w′ f t = ap (λ (x : ℤ). toZ w′ (ofZ w′ x)) (toZ-ofZ f) ∙ toZ-
 -- a call's result, as the record of the call has its range
 pub kept : (z : ℤ) → mag z < 2 ^ 63 → toZ w64 (ofZ w64 z) ≡ z
 kept z h = toZ-ofZ (record { sfits = h })
+
+-- what a floor is
+same-less : (x y : ℤ) → above x + below y ≡ below x + above y → x ≡ y
+same-less (pos a) (pos b) e = ap pos (omega (arith, e))
+same-less (pos a) (negsuc b) e = absurd (omega (arith, e))
+same-less (negsuc a) (pos b) e = absurd (omega (arith, e))
+same-less (negsuc a) (negsuc b) e = ap negsuc (omega (arith, e))
+
+pub floor-is : FloorIs
+floor-is (pos n) d l =
+    record {
+      rest = n % d;
+      small = mod-lt n l;
+      adds-up =
+          same-less (pos n) (pos (n / d) *ℤ pos d +ℤ pos (n % d))
+          (omega (arith, less-product (pos (n / d)) (pos d), less-sum (pos (n / d) *ℤ pos d) (pos (n % d)), div-add-mod' n d));
+    }
+floor-is (negsuc n) d l =
+    let rest : ℕ = d - suc (n % d) in
+    record {
+      rest = rest;
+      small = omega (arith, l);
+      adds-up =
+          same-less (negsuc n) (negsuc (n / d) *ℤ pos d +ℤ pos rest)
+          (omega (arith, less-product (negsuc (n / d)) (pos d), less-sum (negsuc (n / d) *ℤ pos d) (pos rest), div-add-mod' n d, mod-lt n l));
+    }

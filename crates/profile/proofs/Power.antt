@@ -6,9 +6,9 @@ use native.Mathlib.Omega.{arith}
 use lib.Dec.{T, leb, leb→le, nleb→lt}
 use lib.IntN.{ℤ}
 use Rattle.profile.specs.Limits.{inRange}
-use Rattle.profile.specs.Value.{bOf, uOf, ratioN, ratioM, lowPower, highPower}
+use Rattle.profile.specs.Value.{bOf, uOf, ratioN, ratioM, lowPower, highPower, EnclosedPower, AnyProfile}
 use Rattle.profile.specs.declared.Profile.{Profile}
-use Rattle.power.specs.Power.{one, lowerOf, upperOf, Encloses}
+use Rattle.power.specs.Power.{one, lowerOf, upperOf}
 use Rattle.power.proofs.Laws as Laws
 use Rattle.profile.proofs.Range.{steps-least}
 
@@ -39,5 +39,8 @@ module _ (p : Profile) (t : ℤ) (r : inRange t ≡ true) where
   pub high-is : {n m : ℕ} → n ≡ ratioN p t → m ≡ ratioM p t → upperOf n m (p .c) ≡ highPower p t
   high-is e f = rw (e, f) (Laws.upper-of (ratioN p t) (ratioM p t) (p .c) divisor proper)
 
-  pub enclosed : Encloses (ratioN p t) (ratioM p t) (p .c) (lowPower p t) (highPower p t)
+  pub enclosed : EnclosedPower p t
   enclosed = Laws.enclosed (ratioN p t) (ratioM p t) (p .c) divisor proper
+
+pub any-profile : AnyProfile
+any-profile p t r = (divisor p t r, proper p t r, enclosed p t r)

@@ -9,7 +9,7 @@ use lib.IntN.{ℤ, pos, _+ℤ_, _*ℤ_}
 use lib.ListN.{length, getD}
 use lib.Signed.{leZ, _≤ℤ_}
 use Rattle.profile.specs.Limits.{coldest, warmest, weightLeast, weightMost, profileCount}
-use Rattle.profile.specs.Table.{table, noProfile, profileOf, sumOf}
+use Rattle.profile.specs.Coefficients.{table, noProfile, profileOf, sumOf}
 use Rattle.profile.specs.Value.{linear}
 use Rattle.profile.specs.Weight.{floorℤ}
 use Rattle.profile.specs.declared.Profile.{Profile}

@@ -1,25 +1,20 @@
 -- If a call declines: rows 1, 2 and 4 of the table, for profile by number, profile value and day weight, and what these calls
 -- promise. "Checks run 3, 1, 2, 4"; "Single values refused are zero"; "The index of 4 is 0 for one temperature".
 use mathlib.Core.Path.{_≡_}
-use mathlib.Core.Bool.{Bool, cond, not}
+use mathlib.Core.Bool.{not}
 use Prim.Native.Nat.{ℕ, _≤_}
-use lib.Dec.{leb, ltb, eqb}
+use lib.Dec.{leb, ltb}
 use lib.IntN.{ℤ, pos}
-use Rattle.power.specs.Power.{Encloses}
-use Rattle.profile.specs.Rows.{row}
+use Rattle.profile.specs.Rows.{row, ifDone}
 use Rattle.profile.specs.Limits.{inRange, coldest, warmest, weightLeast, weightMost, spanMost, profileCount}
-use Rattle.profile.specs.Table.{profileOf, sumOf}
-use Rattle.profile.specs.Value.{ratioN, ratioM, lowPower, highPower, valueLow, valueHigh}
+use Rattle.profile.specs.Coefficients.{profileOf, sumOf}
+use Rattle.profile.specs.Value.{EnclosedPower, valueLow, valueHigh}
 use Rattle.profile.specs.Weight.{weightOf, floorWeight}
 use Rattle.profile.specs.declared.Numbered.{Numbered}
 use Rattle.profile.specs.declared.ValueAnswer.{ValueAnswer}
 use Rattle.profile.specs.declared.ValueAnswer.the-variants as Valued
 use Rattle.profile.specs.declared.WeightAnswer.{WeightAnswer}
 use Rattle.profile.specs.declared.WeightAnswer.the-variants as Weighed
-
--- what a call gives where its number is 0, and what it gives where it declines
-abbrev pub accepted : {A : Type 0} → ℕ → A → A → A
-accepted number x refused = cond (eqb number 0) x refused
 
 -- ---- profile by number
 abbrev pub byNumberRefusal : ℕ → ℕ
@@ -50,16 +45,11 @@ valueRefusal k t =
     (row (not (inRange t)) 4  -- first mean out of range
     0)
 
--- the paper's number of an answer, its index, and its low and high value
+-- the paper's number of an answer, and its low and high value; "The index of 4 is 0 for one temperature", so that no answer has one
 abbrev pub valueNumber : ValueAnswer → ℕ
 valueNumber (Valued.Value low high) = 0
 valueNumber Valued.NoProfile = 1
 valueNumber Valued.OutOfRange = 4
-
-abbrev pub valueIndex : ValueAnswer → ℕ
-valueIndex (Valued.Value low high) = 0
-valueIndex Valued.NoProfile = 0
-valueIndex Valued.OutOfRange = 0
 
 abbrev pub lowGiven : ValueAnswer → ℤ
 lowGiven (Valued.Value low high) = low
@@ -73,15 +63,12 @@ highGiven Valued.OutOfRange = pos 0
 
 -- the powers of profile k at temperature t enclose the exact one
 abbrev pub Enclosed : ℕ → ℤ → Type 0
-Enclosed k t =
-    Encloses (ratioN (profileOf k) t) (ratioM (profileOf k) t) (profileOf k .c) (lowPower (profileOf k) t) (highPower (profileOf k) t)
+Enclosed k t = EnclosedPower (profileOf k) t
 
 pub record ValueMet (k : ℕ) (t : ℤ) (r : ValueAnswer) : Type 0 where
   pub number : valueNumber r ≡ valueRefusal k t
-  -- "The index of 4 is 0 for one temperature": so for every answer, none of them having one
-  pub index : valueIndex r ≡ 0
-  pub low : lowGiven r ≡ accepted (valueRefusal k t) (valueLow (profileOf k) t) (pos 0)
-  pub high : highGiven r ≡ accepted (valueRefusal k t) (valueHigh (profileOf k) t) (pos 0)
+  pub low : lowGiven r ≡ ifDone (valueRefusal k t) (valueLow (profileOf k) t) (pos 0)
+  pub high : highGiven r ≡ ifDone (valueRefusal k t) (valueHigh (profileOf k) t) (pos 0)
   pub encloses : valueRefusal k t ≡ 0 → Enclosed k t
 
 -- ---- day weight
@@ -92,18 +79,12 @@ weightRefusal k weekday t =
     (row (not (inRange t)) 4  -- first mean out of range
     0))
 
--- the paper's number of an answer, its index, and its weight
+-- the paper's number of an answer, and its weight; no answer has an index
 abbrev pub weightNumber : WeightAnswer → ℕ
 weightNumber (Weighed.Weight w) = 0
 weightNumber Weighed.NoProfile = 1
 weightNumber Weighed.NoWeekday = 2
 weightNumber Weighed.OutOfRange = 4
-
-abbrev pub weightIndex : WeightAnswer → ℕ
-weightIndex (Weighed.Weight w) = 0
-weightIndex Weighed.NoProfile = 0
-weightIndex Weighed.NoWeekday = 0
-weightIndex Weighed.OutOfRange = 0
 
 abbrev pub weightGiven : WeightAnswer → ℕ
 weightGiven (Weighed.Weight w) = w
@@ -113,9 +94,7 @@ weightGiven Weighed.OutOfRange = 0
 
 pub record WeightMet (k weekday : ℕ) (t : ℤ) (r : WeightAnswer) : Type 0 where
   pub number : weightNumber r ≡ weightRefusal k weekday t
-  -- "The index of 4 is 0 for one temperature": so for every answer, none of them having one
-  pub index : weightIndex r ≡ 0
-  pub weight : weightGiven r ≡ accepted (weightRefusal k weekday t) (weightOf k weekday t) 0
+  pub weight : weightGiven r ≡ ifDone (weightRefusal k weekday t) (weightOf k weekday t) 0
   pub floored : weightRefusal k weekday t ≡ 0 → floorWeight k weekday t ≡ pos (weightGiven r)
   pub least : weightRefusal k weekday t ≡ 0 → weightLeast ≤ weightGiven r
   pub most : weightRefusal k weekday t ≡ 0 → weightGiven r ≤ weightMost

@@ -2,6 +2,7 @@
 -- "The bounds on temperature, weight and span are named once"; "Every weight that the table can give is 1 to 6,999,999".
 use mathlib.Core.Bool.{Bool, _&&_}
 use Prim.Native.Nat.{ℕ}
+use lib.Dec.{leb}
 use lib.IntN.{ℤ, pos, negℤ}
 use lib.Signed.{leZ}
 
@@ -23,6 +24,10 @@ weightMost = 6_999_999
 
 abbrev pub spanMost : ℕ
 spanMost = 1_096
+
+-- a number of days that a span can have
+abbrev pub isSpan : ℕ → Bool
+isSpan n = leb 1 n && leb n spanMost
 
 -- numbers 0 to 9
 abbrev pub profileCount : ℕ

@@ -1,11 +1,13 @@
--- Profile value: "Written for temperature t in hundredths." Each definition below has its sentence of that section above it.
-use mathlib.Core.Bool.{Bool, cond}
-use Prim.Native.Nat.{ℕ, _+_, _*_, _/_, _^_}
+-- Profile value (h value): "Written for temperature t in hundredths." Each definition below has its sentence of that section above it.
+use mathlib.Core.Path.{_≡_}
+use mathlib.Core.Bool.{Bool, true, cond}
+use Prim.Native.Nat.{ℕ, _+_, _*_, _/_, _^_, _≤_, _<_}
 use lib.Dec.{leb}
 use lib.IntN.{ℤ, pos, natAbs, _+ℤ_, _-ℤ_, _*ℤ_}
 use lib.Signed.{leZ}
 use Rattle.profile.specs.declared.Profile.{Profile}
-use Rattle.power.specs.Power.{one, upward, pLow, pHigh}
+use Rattle.power.specs.Power.{one, upward, pLow, pHigh, Encloses}
+use Rattle.profile.specs.Limits.{inRange}
 
 -- "Let b be |B| and u = (4,000 - t) × 100,000": above 0, since t is at most 3,999
 abbrev pub bOf : Profile → ℕ
@@ -29,6 +31,14 @@ lowPower p t = pLow (ratioN p t) (ratioM p t) (p .c)
 
 abbrev pub highPower : Profile → ℤ → ℕ
 highPower p t = pHigh (ratioN p t) (ratioM p t) (p .c)
+
+-- the powers enclose the exact one
+abbrev pub EnclosedPower : Profile → ℤ → Type 0
+EnclosedPower p t = Encloses (ratioN p t) (ratioM p t) (p .c) (lowPower p t) (highPower p t)
+
+-- "The ratio is never above one", and the powers enclose, whatever eight coefficients a profile has (proofs/Power, `any-profile`)
+abbrev pub AnyProfile : Type 0
+AnyProfile = (p : Profile) (t : ℤ) → inRange t ≡ true → (0 < ratioM p t) × (ratioN p t ≤ ratioM p t) × EnclosedPower p t
 
 -- "Share s: cold, sLow = floor(2^60 / (one + pHigh)), sHigh is 2^60 / (one + pLow) rounded up;
 -- warm, sLow = floor(pLow × one / (one + pLow)), sHigh the same with pHigh, rounded up."

@@ -1,14 +1,26 @@
 -- Profile value: "A day's weight, in millionths, is floor(low value × F / 10^7)."
-use Prim.Native.Nat.{ℕ, _/_}
-use lib.IntN.{ℤ, pos, negsuc, natAbs, _*ℤ_}
+use mathlib.Core.Path.{_≡_}
+use mathlib.Core.Bool.{true}
+use Prim.Native.Nat.{ℕ, _/_, _≤_, _<_}
+use lib.IntN.{ℤ, pos, negsuc, natAbs, _+ℤ_, _*ℤ_}
 use lib.ListN.{getD}
-use Rattle.profile.specs.Table.{profileOf}
+use Rattle.profile.specs.Limits.{inRange, profileCount, weightLeast, weightMost}
+use Rattle.profile.specs.Coefficients.{profileOf}
 use Rattle.profile.specs.Value.{valueLow}
 
 -- a quotient rounded downwards, of a negative number too
 abbrev pub floorℤ : ℤ → ℕ → ℤ
 floorℤ (pos n) d = pos (n / d)
 floorℤ (negsuc n) d = negsuc (n / d)
+
+-- q times d and a rest below d (proofs/Integer, `floor-is`)
+pub record IsFloor (x : ℤ) (d : ℕ) (q : ℤ) : Type 0 where
+  pub rest : ℕ
+  pub small : rest < d
+  pub adds-up : x ≡ q *ℤ pos d +ℤ pos rest
+
+abbrev pub FloorIs : Type 0
+FloorIs = (x : ℤ) (d : ℕ) → 0 < d → IsFloor x d (floorℤ x d)
 
 -- the factor F of a profile's weekday, Monday 0 to Sunday 6
 abbrev pub factorOf : ℕ → ℕ → ℕ
@@ -18,6 +30,12 @@ factorOf k weekday = getD (profileOf k .factors) weekday 0
 abbrev pub floorWeight : ℕ → ℕ → ℤ → ℤ
 floorWeight k weekday t = floorℤ (valueLow (profileOf k) t *ℤ pos (factorOf k weekday)) 10_000_000
 
--- its size, which is the same where the call is accepted (`WeightMet .floored`)
+-- its size, which is the same for every weight of the table (`WholeTable`)
 unfoldable pub weightOf : ℕ → ℕ → ℤ → ℕ
 weightOf k weekday t = natAbs (floorWeight k weekday t)
+
+-- "Every weight that the table can give is 1 to 6,999,999, shown over the whole table" (proofs/Bounds, `whole-table`)
+abbrev pub WholeTable : Type 0
+WholeTable =
+    (k weekday : ℕ) (t : ℤ) → k < profileCount → weekday < 7 → inRange t ≡ true →
+    (floorWeight k weekday t ≡ pos (weightOf k weekday t)) × (weightLeast ≤ weightOf k weekday t) × (weightOf k weekday t ≤ weightMost)

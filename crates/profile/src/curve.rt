@@ -7,7 +7,7 @@ ghost use Prim.Native.Nat.{_<_, _≤_, _+_, _*_, _/_, _^_};
 ghost use lib.IntN.{pos, natAbs};
 ghost use Rattle.profile.specs.Limits.{inRange, profileCount};
 ghost use Rattle.profile.specs.Weight.{weightOf};
-ghost use Rattle.profile.specs.Parts.{RatioMet, SharesMet, LineMet, LargerMet, ValuesMet};
+ghost use Rattle.profile.specs.Steps.{RatioMet, SharesMet, LineMet, LargerMet, ValuesMet};
 ghost use Rattle.power.specs.Power.{upward};
 ghost use Rattle.profile.specs.Value.{linear, uOf, sLow};
 

@@ -6,7 +6,7 @@ ghost use mathlib.Core.Path.{_≡_};
 ghost use Rattle.profile.specs.Limits.{inRange};
 ghost use Rattle.profile.specs.Answers.{ByNumberMet, LimitsMet, WeightLimitsMet, ValueMet, WeightMet};
 
-// One profile: coefficients in ten-millionths, weekday factors in ten-thousandths, Monday first.
+// One profile, a standard load profile SigLinDe: coefficients in ten-millionths, weekday factors in ten-thousandths, Monday first.
 pub struct Profile {
     pub a: u32,
     pub b: i32,
@@ -25,14 +25,14 @@ pub struct Numbered {
     pub profile: Profile,
 }
 
-// The profile value in units of 10^-9, or the row that declines it: 1, 4.
+// The profile value (h value) in units of 10^-9, or the row that declines it: 1, 4.
 pub enum ValueAnswer {
     Value { low: i64, high: i64 },
     NoProfile,
     OutOfRange,
 }
 
-// A day's weight in millionths, or the row that declines it: 1, 2, 4.
+// A day's weight (h value times weekday factor) in millionths, or the row that declines it: 1, 2, 4.
 pub enum WeightAnswer {
     Weight(u32),
     NoProfile,

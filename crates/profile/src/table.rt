@@ -3,7 +3,7 @@ use super::Profile;
 ghost use mathlib.Core.Path.{_≡_};
 ghost use Prim.Native.Nat.{_<_};
 ghost use Rattle.profile.specs.Limits.{profileCount};
-ghost use Rattle.profile.specs.Table.{profileOf};
+ghost use Rattle.profile.specs.Coefficients.{profileOf};
 
 // Tables 4 and 5 of source document 001.
 const TABLE: [Profile; 10] = [

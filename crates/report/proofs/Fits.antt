@@ -10,14 +10,14 @@ use Rattle.layout.specs.Text.{refusalText, LaidOut}
 use Rattle.layout.specs.Accounts.{accountText, textMost}
 use Rattle.layout.proofs.Fits.{either, account-most, refusal-most}
 use Rattle.casefile.specs.Reader.{faultNumber, faultPlace, verdict, slicesAfter}
-use Rattle.casefile.specs.Case.{named}
+use Rattle.casefile.specs.Case.{accountOf}
 use Rattle.report.specs.Report.{caseText, CaseTextMet}
 
 pub case-most : (s : List ℕ) (lent : Account) → length (caseText s lent) ≤ textMost
 case-most s lent =
     let v = verdict s lent in
-    either (eqb (faultNumber v) 0) (accountText (named s)) (refusalText (faultNumber v) (faultPlace v))
-    (account-most (named s))
+    either (eqb (faultNumber v) 0) (accountText (accountOf s)) (refusalText (faultNumber v) (faultPlace v))
+    (account-most (accountOf s))
     (refusal-most (faultNumber v) (faultPlace v))
 
 -- a text laid out that is the file's

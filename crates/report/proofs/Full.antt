@@ -1,8 +1,8 @@
 -- A statement that is given is printed in full (Case file): none of the ways in which there could be no text arises. Assumes nothing.
 use Prim.Native.Nat.{ℕ, zero, suc, _+_, _-_, _≤_, _<_}
-use mathlib.Core.Path.{_≡_, refl, sym, ap, _∙_}
-use mathlib.Core.Bool.{Bool, true, false, not}
-use mathlib.Core.List.{List, _++_, map}
+use mathlib.Core.Path.{_≡_, sym, ap, _∙_}
+use mathlib.Core.Bool.{false}
+use mathlib.Core.List.{List, map}
 use native.Mathlib.Omega.{arith}
 use native.Mathlib.Nat.{not-suc-le-zero}
 use native.Mathlib.Decide.{decLt}
@@ -10,21 +10,21 @@ use borrow.Author.Tests.{le-ltb, ne-eqb}
 use lib.Dec.{ltb}
 use lib.ListN.{length, getD, replicate, length-append, length-map}
 use Rattle.profile.specs.Limits.{spanMost}
-use Rattle.account.specs.Boundaries.{some, howMany}
-use Rattle.account.specs.Account.{Account, days, shown, energyMost}
-use Rattle.account.proofs.Boundaries.{none-is}
+use Rattle.account.specs.Below.{some, howMany}
+use Rattle.account.specs.Account.{days, shown, energyMost}
+use Rattle.account.proofs.Below.{none-is}
 use Rattle.account.proofs.Sound.{fit, sound-parts}
 use Rattle.account.proofs.Rows.{row-none, checked, rows-through}
-use Rattle.statement.specs.Parts.{Part, Outputs, padded, parts, written}
+use Rattle.profile.specs.Rows.{filled}
+use Rattle.statement.specs.Parts.{Part, Outputs, parts, written}
 use Rattle.statement.specs.Shares.{total}
 use Rattle.statement.specs.Call.{statementRows}
 use Rattle.statement.proofs.Order.{fair-of-sound}
 use Rattle.statement.proofs.Parts.{parts-fit}
+use Rattle.statement.proofs.Successive.{successive}
 use Rattle.statement.proofs.Facts.{sums-up}
 use Rattle.layout.specs.Text.{noStatement, partsText}
-use Rattle.layout.specs.Accounts.{accountNumber, accountText}
 use Rattle.report.specs.Report.{PrintedInFull}
-use Rattle.report.proofs.Given.{has-part}
 
 -- a part is no more than the total
 total-grows : (o : Outputs) (m i : ℕ) → i < m → getD (o .wh) i 0 ≤ total o m
@@ -38,9 +38,9 @@ total-grows o (suc m) i h = by (decLt i m) (total-grows o m i)
         let same : i ≡ m = omega arith in
         omega (arith, ap (λ (k : ℕ). getD (o .wh) k 0) same)
 
-long-enough : (f : Part → ℕ) (n : ℕ) (ps : List Part) → ltb (length (padded n (map f ps))) (length ps) ≡ false
+long-enough : (f : Part → ℕ) (n : ℕ) (ps : List Part) → ltb (length (filled n (map f ps))) (length ps) ≡ false
 long-enough f n ps =
-    le-ltb (length (padded n (map f ps))) (length ps)
+    le-ltb (length (filled n (map f ps))) (length ps)
     (omega (arith, length-append (map f ps) (replicate (n - length (map f ps)) 0), length-map ps f))
 
 pub in-full : PrintedInFull
@@ -55,7 +55,7 @@ in-full a number =
     none-is _ (length ps) (λ i h. le-ltb energyMost (getD (o .wh) i 0) (omega (arith, total-grows o (length ps) i h, sum, sound-parts a (ok .sound) .energy))) in
     let is : noStatement o (length ps) ≡ false =
     simp (
-      ne-eqb (length ps) 0 (λ none. omega (arith, has-part (a .weights) (shown a) two)),
+      ne-eqb (length ps) 0 (λ none. omega (arith, successive (a .weights) (shown a) two .some)),
       le-ltb spanMost (length ps) (omega (arith, few, fit a (ok .fits) .most)),
       long-enough (λ (p : Part). p .from) (days a) ps,
       long-enough (λ (p : Part). p .to) (days a) ps,

@@ -1,4 +1,5 @@
 mod Taken
 pub mod Fits
-pub mod Given
 pub mod Full
+pub mod Printed
+pub mod Calls

@@ -2,21 +2,22 @@
 use Prim.Native.Nat.{ℕ, zero, suc, _+_, _-_, _≤_}
 use mathlib.Core.Path.{_≡_, refl, sym, ap, ap₂, _∙_}
 use mathlib.Core.Bool.{Bool, true, false, not}
-use mathlib.Core.List.{List, _++_}
+use mathlib.Core.List.{List}
 use native.Mathlib.Omega.{arith}
 use borrow.Author.Tests.{ne-eqb}
-use lib.Dec.{ltb}
+use lib.Dec.{ltb, leb}
 use lib.ListN.{length, take, replicate, length-append}
 use lib.Seq.{take-at}
-use Rattle.profile.specs.Limits.{spanMost, inRange}
+use Rattle.profile.specs.Limits.{profileCount, spanMost, inRange}
 use Rattle.account.specs.Account.{Account, account, unfit, badSpan, energyMost}
-use Rattle.account.specs.Boundaries.{some}
-use Rattle.account.proofs.Boundaries.{clash, refuted}
+use Rattle.account.specs.Below.{some}
+use Rattle.account.proofs.Below.{clash, refuted}
 use Rattle.layout.specs.Text.{refusalText}
-use Rattle.casefile.specs.Case.{profileOf, weekdayOf, meanCount, meanPlace, daysOf, readingsPlace, readingCount, readingPlace, readingBoundary, readingValue, cutsPlace, cutCount, cutPlace, cutBoundary, endOf, named}
+use Rattle.casefile.specs.Case.{profileByte, weekdayByte, meansLength, meanOffset, daysOf, readingsOffset, readingsLength, readingOffset, readingBoundary, readingCount, cutsOffset, cutsLength, cutOffset, cutBoundary, endOf, accountOf}
 use Rattle.casefile.specs.Bytes.{signed16}
 use Rattle.casefile.specs.Faults.{Fault, none, refused, fault, _before_, firstFault, early, falls, meanFault, readingFault, cutFault, faultOf, headFault, meansFault, readingsFault}
-use Rattle.casefile.specs.Reader.{faultNumber, faultPlace, unfitSlices, verdict, filled, full, ReadMet}
+use Rattle.profile.specs.Rows.{filled}
+use Rattle.casefile.specs.Reader.{faultNumber, faultPlace, unfitSlices, verdict, full, ReadMet}
 use Rattle.casefile.specs.declared.CaseAnswer.the-variants.{Days, Refused}
 use Rattle.casefile.proofs.Filed.{Kept, cuts-kept}
 use Rattle.casefile.proofs.Sound.{days-kept, case-sound}
@@ -24,8 +25,8 @@ use Rattle.layout.specs.Accounts.{accountText}
 use Rattle.report.specs.Report.{caseText}
 
 -- a fault that the paper has a number for
-record Numbered (f : Fault) : Type 0 where
-  none-if : faultNumber f ≡ 0 → f ≡ none
+pub record Numbered (f : Fault) : Type 0 where
+  pub none-if : faultNumber f ≡ 0 → f ≡ none
 
 numbered-fault : (b : Bool) (n p : ℕ) → Numbered (fault b (suc n) p)
 numbered-fault true n p = record { none-if = λ e. absurd (omega (arith, e)) }
@@ -49,35 +50,35 @@ module _ (s : List ℕ) where
   ends to g after = then (ltb (length s) to) 12 (length s) g after
 
   mean-numbered : (i : ℕ) → Numbered (meanFault s i)
-  mean-numbered i = ends (meanPlace i + 2) _ (numbered-fault (not (inRange (signed16 s (meanPlace i)))) 3 (meanPlace i))
+  mean-numbered i = ends (meanOffset i + 2) _ (numbered-fault (not (inRange (signed16 s (meanOffset i)))) 3 (meanOffset i))
 
   reading-numbered : (i : ℕ) → Numbered (readingFault s i)
   reading-numbered i =
-      ends (readingPlace s i + 10) _ (
-      then (falls (readingBoundary s) i) 12 (readingPlace s i) _ (
-      then (ltb (daysOf s) (readingBoundary s i)) 5 (readingPlace s i) _ (
-      then (some (λ j. ltb (readingValue s i) (readingValue s j)) i) 7 (readingPlace s i + 2) _
-      (numbered-fault (ltb energyMost (readingValue s i - readingValue s 0)) 8 (readingPlace s i + 2)))))
+      ends (readingOffset s i + 10) _ (
+      then (falls (readingBoundary s) i) 12 (readingOffset s i) _ (
+      then (ltb (daysOf s) (readingBoundary s i)) 5 (readingOffset s i) _ (
+      then (some (λ j. ltb (readingCount s i) (readingCount s j)) i) 7 (readingOffset s i + 2) _
+      (numbered-fault (ltb energyMost (readingCount s i - readingCount s 0)) 8 (readingOffset s i + 2)))))
 
   cut-numbered : (i : ℕ) → Numbered (cutFault s i)
   cut-numbered i =
-      ends (cutPlace s i + 2) _ (
-      then (falls (cutBoundary s) i) 12 (cutPlace s i) _
-      (numbered-fault (ltb (daysOf s) (cutBoundary s i)) 5 (cutPlace s i)))
+      ends (cutOffset s i + 2) _ (
+      then (falls (cutBoundary s) i) 12 (cutOffset s i) _
+      (numbered-fault (ltb (daysOf s) (cutBoundary s i)) 5 (cutOffset s i)))
 
-  file-numbered : Numbered (faultOf s)
+  pub file-numbered : Numbered (faultOf s)
   file-numbered =
-      numbered-before (headFault s 0) _ (
+      numbered-before (headFault s) _ (
       ends 1 _ (
-      then (ltb 9 (profileOf s)) 0 0 _ (
+      then (leb profileCount (profileByte s)) 0 0 _ (
       ends 2 _ (
-      then (ltb 6 (weekdayOf s)) 1 1 _ (
+      then (ltb 6 (weekdayByte s)) 1 1 _ (
       ends 4 _
       (numbered-fault (badSpan (daysOf s)) 2 2)))))) (
-      numbered-before (meansFault s) _ (numbered-first (meanFault s) mean-numbered (meanCount s)) (
-      numbered-before (readingsFault s) _ (ends (readingsPlace s + 2) _ (numbered-first (readingFault s) reading-numbered (readingCount s))) (
-      ends (cutsPlace s + 2) _ (
-      numbered-before (firstFault (cutFault s) (cutCount s)) _ (numbered-first (cutFault s) cut-numbered (cutCount s))
+      numbered-before (meansFault s) _ (numbered-first (meanFault s) mean-numbered (meansLength s)) (
+      numbered-before (readingsFault s) _ (ends (readingsOffset s + 2) _ (numbered-first (readingFault s) reading-numbered (readingsLength s))) (
+      ends (cutsOffset s + 2) _ (
+      numbered-before (firstFault (cutFault s) (cutsLength s)) _ (numbered-first (cutFault s) cut-numbered (cutsLength s))
       (numbered-fault (ltb (endOf s) (length s)) 12 (endOf s))))))
 
 -- a list and the zeros after it: its start is the list, and it is at least as long
@@ -100,8 +101,8 @@ module _ (s : List ℕ) (lent : Account) (accepted : faultNumber (verdict s lent
   -- such a file has days
   some-days : daysOf s ≡ 0 → ⊥
   some-days z =
-      let none-is = days-kept s (named s) (cuts-kept s (cutCount s)) ∙ z in
-      let bad : unfit (named s) ≡ true = rw none-is refl in
+      let none-is = days-kept s (accountOf s) (cuts-kept s (cutsLength s)) ∙ z in
+      let bad : unfit (accountOf s) ≡ true = rw none-is refl in
       clash bad (case-sound s (file-numbered s .none-if clean) .0)
 
 module _ (s : List ℕ) (lent : Account) (number place : ℕ) (after : Account) (met : ReadMet s lent (Refused number place) after s) where
@@ -115,40 +116,40 @@ module _ (s : List ℕ) (lent : Account) (n : ℕ) (after : Account) (met : Read
   accepted : faultNumber (verdict s lent) ≡ 0
   accepted = sym (met .numbers)
 
-  after-is : after ≡ full (named s)
+  after-is : after ≡ full (accountOf s)
   after-is = met .fills ∙ rw (fit s lent accepted, clean s lent accepted) refl
 
   days-are : n ≡ daysOf s
   days-are = met .returns ∙ rw accepted refl
 
-  kept : Kept s (named s)
-  kept = cuts-kept s (cutCount s)
+  kept : Kept s (accountOf s)
+  kept = cuts-kept s (cutsLength s)
 
-  weights-long : length (named s .weights) ≡ n
-  weights-long = days-kept s (named s) kept ∙ sym days-are
+  weights-long : length (accountOf s .weights) ≡ n
+  weights-long = days-kept s (accountOf s) kept ∙ sym days-are
 
-  marks-long : length (named s .marks) ≡ n + 1
+  marks-long : length (accountOf s .marks) ≡ n + 1
   marks-long = kept .marks-long ∙ ap (λ (k : ℕ). k + 1) (sym days-are)
 
-  counts-long : length (named s .counts) ≡ n + 1
+  counts-long : length (accountOf s .counts) ≡ n + 1
   counts-long = kept .counts-long ∙ ap (λ (k : ℕ). k + 1) (sym days-are)
 
   -- the account at the start of the slices is the one that the file names
-  pub taken-is : account (take n (after .weights)) (take (n + 1) (after .marks)) (take (n + 1) (after .counts)) ≡ named s
+  pub taken-is : account (take n (after .weights)) (take (n + 1) (after .marks)) (take (n + 1) (after .counts)) ≡ accountOf s
   taken-is =
       ap (λ (a : Account). account (take n (a .weights)) (take (n + 1) (a .marks)) (take (n + 1) (a .counts))) after-is ∙
-      rw (filled-starts spanMost (named s .weights) n weights-long, filled-starts (spanMost + 1) (named s .marks) (n + 1) marks-long, filled-starts (spanMost + 1) (named s .counts) (n + 1) counts-long) refl
+      rw (filled-starts spanMost (accountOf s .weights) n weights-long, filled-starts (spanMost + 1) (accountOf s .marks) (n + 1) marks-long, filled-starts (spanMost + 1) (accountOf s .counts) (n + 1) counts-long) refl
 
   pub weights-reach : n ≤ length (after .weights)
-  weights-reach = omega (arith, ap (λ (a : Account). length (a .weights)) after-is, filled-reaches spanMost (named s .weights) n weights-long)
+  weights-reach = omega (arith, ap (λ (a : Account). length (a .weights)) after-is, filled-reaches spanMost (accountOf s .weights) n weights-long)
 
   pub marks-reach : n + 1 ≤ length (after .marks)
-  marks-reach = omega (arith, ap (λ (a : Account). length (a .marks)) after-is, filled-reaches (spanMost + 1) (named s .marks) (n + 1) marks-long)
+  marks-reach = omega (arith, ap (λ (a : Account). length (a .marks)) after-is, filled-reaches (spanMost + 1) (accountOf s .marks) (n + 1) marks-long)
 
   pub counts-reach : n + 1 ≤ length (after .counts)
-  counts-reach = omega (arith, ap (λ (a : Account). length (a .counts)) after-is, filled-reaches (spanMost + 1) (named s .counts) (n + 1) counts-long)
+  counts-reach = omega (arith, ap (λ (a : Account). length (a .counts)) after-is, filled-reaches (spanMost + 1) (accountOf s .counts) (n + 1) counts-long)
 
   pub taken-says : caseText s lent ≡ accountText (account (take n (after .weights)) (take (n + 1) (after .marks)) (take (n + 1) (after .counts)))
   taken-says =
-      let says : caseText s lent ≡ accountText (named s) = rw accepted refl in
+      let says : caseText s lent ≡ accountText (accountOf s) = rw accepted refl in
       says ∙ ap accountText (sym taken-is)

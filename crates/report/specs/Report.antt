@@ -2,30 +2,43 @@
 -- "A refusal prints one line: `refused`, its number and the place (0 if it has none), single spaces between."
 use Prim.Native.Nat.{ℕ, _≤_}
 use mathlib.Core.Path.{_≡_}
-use mathlib.Core.Bool.{cond}
 use mathlib.Core.List.{List}
-use lib.Dec.{eqb}
-use lib.ListN.{length}
+use lib.ListN.{length, take}
+use Rattle.profile.specs.Rows.{ifDone}
 use Rattle.account.specs.Stands.{lastLessFirst}
 use Rattle.account.specs.Account.{Account, days, shown}
 use Rattle.statement.specs.Parts.{parts, written}
 use Rattle.layout.specs.Text.{partsText, refusalText, LaidOut}
 use Rattle.layout.specs.Accounts.{accountNumber, accountText, textMost}
-use Rattle.casefile.specs.Case.{named}
+use Rattle.casefile.specs.Case.{accountOf}
+use Rattle.casefile.specs.Faults.{Fault, faultOf}
+use Rattle.casefile.specs.Length.{bytesRead}
 use Rattle.casefile.specs.Reader.{faultNumber, faultPlace, verdict, slicesAfter}
 
--- a statement that is given is printed in full, and the sum printed is the last reading less the first
+-- a statement that is given is printed in full, and the sum printed is the last reading less the first (proofs/Full, `in-full`)
 abbrev pub PrintedInFull : Type 0
 PrintedInFull = (a : Account) → accountNumber a ≡ 0 →
     accountText a ≡
     partsText (written (days a) (parts (a .weights) (shown a))) (length (parts (a .weights) (shown a))) (lastLessFirst (days a) (shown a .readings))
 
--- the reader's refusal with its place, or what the account that the file names comes to
+-- a refusal with its place, or what the account that the file names comes to
+abbrev pub textOf : Fault → List ℕ → List ℕ
+textOf verdict s =
+    ifDone (faultNumber verdict)
+    (accountText (accountOf s))
+    (refusalText (faultNumber verdict) (faultPlace verdict))
+
+-- what the program prints of a file
+abbrev pub fileText : List ℕ → List ℕ
+fileText s = textOf (faultOf s) s
+
+-- .. and what the reader's verdict comes to where it is lent these slices
 abbrev pub caseText : List ℕ → Account → List ℕ
-caseText s lent =
-    cond (eqb (faultNumber (verdict s lent)) 0)
-    (accountText (named s))
-    (refusalText (faultNumber (verdict s lent)) (faultPlace (verdict s lent)))
+caseText s lent = textOf (verdict s lent) s
+
+-- of a file the program reads 16,384 bytes, and prints the text of the whole (proofs/Printed, `program-prints`)
+abbrev pub ProgramPrints : Type 0
+ProgramPrints = (s : List ℕ) → fileText (take bytesRead s) ≡ fileText s
 
 -- the text of a case file that is read into these slices, what they hold after it, and the file unchanged
 pub record CaseTextMet (file : List ℕ) (lent : Account) (out : List ℕ) (next : ℕ) (after : Account) (printed kept : List ℕ) : Type 0 where

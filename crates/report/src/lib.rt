@@ -5,7 +5,9 @@ use layout::account_text;
 use layout::refusal_text;
 ghost use Prim.Native.Nat.{_≤_, _+_};
 ghost use lib.ListN.{length, take};
+ghost use mathlib.Core.Path.{_≡_};
 ghost use Rattle.account.specs.Account.{account};
+ghost use Rattle.casefile.specs.Length.{bytesRead};
 ghost use Rattle.layout.specs.Text.{LaidOut};
 ghost use Rattle.layout.specs.Accounts.{accountText};
 ghost use Rattle.report.specs.Report.{CaseTextMet};
@@ -22,6 +24,7 @@ pub fn case_text(
     out: &mut [u8],
 ) -> usize
     ensures { λ r. ⌜ CaseTextMet (now (file .entry)) (account (now (weights .entry)) (now (marks .entry)) (now (counts .entry))) (now (out .entry)) r (account (now (weights .exit)) (now (marks .exit)) (now (counts .exit))) (now (out .exit)) (now (file .exit)) ⌝ }
+    ensures { λ r. do ⌜ (← ⟦FILE_READ⟧ .entry) ≡ bytesRead ⌝ }
 {
     let answer = read_case(file, weights, marks, counts);
     match answer {

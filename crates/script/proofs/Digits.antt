@@ -1,6 +1,6 @@
 -- The digits of a word from an offset on, and what they make of it. Assumes nothing.
 use Prim.Native.Nat.{ℕ, zero, suc, _+_, _-_, _*_, _≤_, _<_}
-use mathlib.Core.Path.{_≡_, refl, sym, ap, _∙_}
+use mathlib.Core.Path.{_≡_, refl, ap}
 use mathlib.Core.Bool.{Bool, true, false, cond, not, _&&_, and-false}
 use mathlib.Core.List.{List, [], _∷_}
 use native.Mathlib.Omega.{arith}
@@ -12,11 +12,11 @@ use lib.IntN.{ℤ, pos, negsuc, negℤ}
 use lib.ListN.{length, getD, take, drop, drop-of-length-le}
 use lib.Seq.{drop-cons, take-all}
 use Rattle.script.specs.Words.{every}
-use Rattle.script.specs.Numbers.{isDigit, valueAfter, value, isNumber, numberOf, isMean, degrees, meanOf}
+use Rattle.script.specs.Numbers.{isDigit, valueAfter, value, isNumber, numberOf, isMean, hundredths, meanOf}
 use Rattle.script.specs.declared.Decimal.{Decimal}
-use Rattle.script.specs.declared.Degrees.{Degrees}
+use Rattle.script.specs.declared.Hundredths.{Hundredths}
 use Rattle.script.specs.declared.Decimal.the-variants.{Number, NoNumber}
-use Rattle.script.specs.declared.Degrees.the-variants.{Mean, NoMean}
+use Rattle.script.specs.declared.Hundredths.the-variants.{Mean, NoMean}
 
 value-least : (v : ℕ) (w : List ℕ) → v ≤ valueAfter v w
 unfolding valueAfter
@@ -80,17 +80,17 @@ module _ (most : ℕ) (w : List ℕ) where
       by true h = cc
       by false h = refl
 
-pub mean-is : (w : List ℕ) (z : ℤ) → meanOf w ≡ Mean z → (isMean w ≡ true) × (degrees w ≡ z)
+pub mean-is : (w : List ℕ) (z : ℤ) → meanOf w ≡ Mean z → (isMean w ≡ true) × (hundredths w ≡ z)
 mean-is w z e = by (isMean w) e
   where
-    by : (b : Bool) → cond b (Mean (degrees w)) NoMean ≡ Mean z → (b ≡ true) × (degrees w ≡ z)
+    by : (b : Bool) → cond b (Mean (hundredths w)) NoMean ≡ Mean z → (b ≡ true) × (hundredths w ≡ z)
     by true h = (refl, cc)
     by false h = (cc, cc)
 
 pub mean-none : (w : List ℕ) → meanOf w ≡ NoMean → isMean w ≡ false
 mean-none w e = by (isMean w) e
   where
-    by : (b : Bool) → cond b (Mean (degrees w)) NoMean ≡ NoMean → b ≡ false
+    by : (b : Bool) → cond b (Mean (hundredths w)) NoMean ≡ NoMean → b ≡ false
     by true h = cc
     by false h = refl
 
@@ -99,7 +99,7 @@ below-zero zero h = absurd (h refl)
 below-zero (suc n) h = ap negsuc (omega arith)
 
 -- a mean made of a number
-abbrev pub asMean : (ℕ → ℤ) → Decimal → Degrees
+abbrev pub asMean : (ℕ → ℤ) → Decimal → Hundredths
 asMean sign (Number n) = Mean (sign n)
 asMean sign NoNumber = NoMean
 

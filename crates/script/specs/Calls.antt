@@ -1,17 +1,16 @@
 -- The calls of a script: `weights W W ..`, `days PROFILE WEEKDAY MEAN MEAN ..`, `reading K COUNT`, `withdraw K`, `cut K`, `uncut K`, `statement`.
 -- Empty lines and lines that begin with `#` are no call; a line that is no call, or has a number that the call's type can't hold, is unknown.
 use Prim.Native.Nat.{ℕ}
-use mathlib.Core.Bool.{Bool, true, cond}
+use mathlib.Core.Bool.{Bool, cond}
 use mathlib.Core.List.{List, [], _∷_}
 use lib.Dec.{eqb}
 use lib.IntN.{ℤ}
 use lib.ListN.{drop}
 use Rattle.profile.specs.Rows.{row}
-use Rattle.script.specs.Words.{words, wordsLeft, same, every}
-use Rattle.script.specs.Numbers.{value, isNumber, numberOf, isMean, degrees, leading, most8, most32, most64}
+use Rattle.script.specs.Words.{words, same, every}
+use Rattle.script.specs.Numbers.{value, isNumber, numberOf, isMean, hundredths, leading, most8, most32, most64}
 use Rattle.script.specs.declared.Decimal.{Decimal}
 use Rattle.script.specs.declared.Decimal.the-variants.{Number, NoNumber}
-use Rattle.script.specs.declared.Call.{Call}
 use Rattle.script.specs.declared.Call.the-variants.{Reading, Withdraw, Cut, Uncut}
 use Rattle.script.specs.declared.Command.{Command}
 use Rattle.script.specs.declared.Command.the-variants.{Blank, Unknown, Weights, Days, Change, Statement}
@@ -109,4 +108,4 @@ abbrev pub weightsIn : List ℕ → List ℕ
 weightsIn line = leading (isNumber most32) value (drop 1 (words line))
 
 abbrev pub meansIn : List ℕ → List ℤ
-meansIn line = leading isMean degrees (drop 3 (words line))
+meansIn line = leading isMean hundredths (drop 3 (words line))

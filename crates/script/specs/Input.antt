@@ -21,6 +21,6 @@ wholeLines input = cond (leb (length input) scriptMost) (length input) (afterFee
 abbrev pub scriptOf : List ℕ → List ℕ
 scriptOf input = take (wholeLines input) input
 
--- reading one byte more than the limit is enough
+-- reading one byte more than the limit is enough (proofs/Input, `enough-read`)
 abbrev pub EnoughRead : Type 0
 EnoughRead = (input : List ℕ) → scriptOf (take (scriptMost + 1) input) ≡ scriptOf input

@@ -10,8 +10,8 @@ use lib.Seq.{sets}
 use Rattle.script.specs.Words.{every}
 use Rattle.script.specs.declared.Decimal.{Decimal}
 use Rattle.script.specs.declared.Decimal.the-variants.{Number, NoNumber}
-use Rattle.script.specs.declared.Degrees.{Degrees}
-use Rattle.script.specs.declared.Degrees.the-variants.{Mean, NoMean}
+use Rattle.script.specs.declared.Hundredths.{Hundredths}
+use Rattle.script.specs.declared.Hundredths.the-variants.{Mean, NoMean}
 
 abbrev pub isDigit : ℕ → Bool
 isDigit x = leb 48 x && leb x 57
@@ -36,12 +36,12 @@ abbrev pub isMean : List ℕ → Bool
 isMean [] = false
 isMean (x ∷ w) = cond (eqb x 45) (isNumber 32_768 w) (isNumber 32_767 (x ∷ w))
 
-abbrev pub degrees : List ℕ → ℤ
-degrees [] = pos 0
-degrees (x ∷ w) = cond (eqb x 45) (negℤ (pos (value w))) (pos (value (x ∷ w)))
+abbrev pub hundredths : List ℕ → ℤ
+hundredths [] = pos 0
+hundredths (x ∷ w) = cond (eqb x 45) (negℤ (pos (value w))) (pos (value (x ∷ w)))
 
-abbrev pub meanOf : List ℕ → Degrees
-meanOf w = cond (isMean w) (Mean (degrees w)) NoMean
+abbrev pub meanOf : List ℕ → Hundredths
+meanOf w = cond (isMean w) (Mean (hundredths w)) NoMean
 
 -- the largest values of unsigned 8, 32 and 64 bits
 abbrev pub most8 : ℕ

@@ -15,7 +15,7 @@ upTo b (x ∷ s) = cond (eqb x b) [] (x ∷ upTo b s)
 abbrev pub next : ℕ → List ℕ → ℕ → ℕ
 next b text at = at + length (upTo b (drop at text))
 
--- the end of a line that begins at an offset: the next line feed; where there is none as above
+-- the end of a line that begins at an offset: the next line feed, or the end of the text
 abbrev pub lineEnd : List ℕ → ℕ → ℕ
 lineEnd text at = next 10 text at
 

@@ -24,7 +24,7 @@ pub enum Decimal {
 }
 
 // A mean, in hundredths of a degree, or none.
-pub enum Degrees {
+pub enum Hundredths {
     Mean(i16),
     NoMean,
 }
@@ -95,22 +95,22 @@ pub(crate) fn number(word: &[u8], most: u64) -> Decimal
 }
 
 // A word's value, if it is a mean.
-pub(crate) fn mean(word: &[u8]) -> Degrees
+pub(crate) fn mean(word: &[u8]) -> Hundredths
     ensures { λ r. ⌜ r ≡ meanOf (now (word .entry)) ⌝ }
 {
     if word.len() == 0 {
-        return Degrees::NoMean;
+        return Hundredths::NoMean;
     }
     if word[0] == b'-' {
         let Decimal::Number(n) = number(&word[1..], 32_768) else {
-            return Degrees::NoMean;
+            return Hundredths::NoMean;
         };
-        return Degrees::Mean(negative(n));
+        return Hundredths::Mean(negative(n));
     }
     let Decimal::Number(n) = number(word, 32_767) else {
-        return Degrees::NoMean;
+        return Hundredths::NoMean;
     };
-    Degrees::Mean(n as i16)
+    Hundredths::Mean(n as i16)
 }
 
 // The negative of a number.

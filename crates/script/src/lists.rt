@@ -1,13 +1,13 @@
 // The weights and the means at the end of a line: judged, and stored in a lent slice.
 use crate::Decimal;
-use crate::Degrees;
+use crate::Hundredths;
 use crate::mean;
 use crate::number;
 use crate::words::next;
 ghost use mathlib.Core.Path.{_≡_};
 ghost use lib.ListN.{drop};
 ghost use Rattle.script.specs.Words.{wordsLeft, every};
-ghost use Rattle.script.specs.Numbers.{isNumber, value, isMean, degrees, leading, Listed, most32};
+ghost use Rattle.script.specs.Numbers.{isNumber, value, isMean, hundredths, leading, Listed, most32};
 
 // The largest weight of 32 bits.
 const MOST: u64 = 4_294_967_295;
@@ -34,7 +34,7 @@ pub(crate) fn all_means(line: &[u8], end: usize) -> bool
     let mut at = end;
     while at < line.len() {
         let end = next(line, at + 1, b' ');
-        let Degrees::Mean(_) = mean(&line[at + 1..end]) else {
+        let Hundredths::Mean(_) = mean(&line[at + 1..end]) else {
             return false;
         };
         at = end;
@@ -64,13 +64,13 @@ pub(crate) fn weights_from(line: &[u8], end: usize, out: &mut [u32]) -> usize
 
 // The means from the end of a word on, stored as far as they fit; how many there are.
 pub(crate) fn means_from(line: &[u8], end: usize, out: &mut [i16]) -> usize
-    ensures { λ r. ⌜ Listed (leading isMean degrees (wordsLeft (drop end (now (line .entry))))) (now (out .entry)) r (now (out .exit)) (now (line .entry)) (now (line .exit)) ⌝ }
+    ensures { λ r. ⌜ Listed (leading isMean hundredths (wordsLeft (drop end (now (line .entry))))) (now (out .entry)) r (now (out .exit)) (now (line .entry)) (now (line .exit)) ⌝ }
 {
     let mut at = end;
     let mut i = 0;
     while at < line.len() {
         let end = next(line, at + 1, b' ');
-        let Degrees::Mean(x) = mean(&line[at + 1..end]) else {
+        let Hundredths::Mean(x) = mean(&line[at + 1..end]) else {
             return i;
         };
         if i < out.len() {

@@ -1,16 +1,16 @@
 -- What a run's contract comes to, and that runs one after the other print a script's text. Assumes nothing.
 use Prim.Native.Nat.{ℕ, _+_, _-_, _≤_, _<_}
 use mathlib.Core.Path.{_≡_, refl, sym, ap, ap₂, _∙_}
-use mathlib.Core.Bool.{Bool, true, false, cond, _&&_}
+use mathlib.Core.Bool.{Bool, true, false, cond}
 use mathlib.Core.List.{List, [], _∷_, _++_}
 use native.Mathlib.Omega.{arith}
 use native.Mathlib.Decide.{decLt}
 use borrow.Author.Needs.{zero≤}
 use borrow.Author.Tests.{lt-ltb, le-leb}
-use lib.Dec.{ltb, leb}
 use lib.ListN.{length, getD, take, drop, length-append, length-drop, drop-of-length-le}
-use lib.Seq.{length-take-le, take-at, sets-eq, length-sets}
+use lib.Seq.{length-take-le}
 use Rattle.account.specs.Account.{Account}
+use Rattle.layout.proofs.Laid.{start-within, start-is}
 use Rattle.script.specs.Words.{lineEnd}
 use Rattle.script.specs.Numbers.{most64}
 use Rattle.script.specs.Input.{scriptMost, scriptOf}
@@ -89,12 +89,10 @@ module _ (text : List ℕ) (at done : ℕ) (s : Session) (out : List ℕ) (ran :
 
   -- the answers lie within the slice, and are all of them
   pub run-within : ran .length ≤ length written
-  run-within = omega (arith, fits, met .answers .ends, ap length (met .answers .stored), length-sets out 0 answers)
+  run-within = start-within (met .answers) fits
 
   run-prints : take (ran .length) written ≡ answers
-  run-prints =
-      ap (take (ran .length)) (met .answers .stored ∙ sets-eq answers out 0 (omega (arith, fits))) ∙
-      take-at answers (drop (0 + length answers) out) (ran .length) (omega (arith, met .answers .ends))
+  run-prints = start-is (met .answers) fits
 
   -- each line is at least a byte
   pub run-passes : ran .done + at ≤ done + ran .at
@@ -109,21 +107,27 @@ module _ (text : List ℕ) (at done : ℕ) (s : Session) (out : List ℕ) (ran :
       runnable-more done s (length out) (take (end - at) (drop at text)) (lines (drop (end + 1) text)) goes in
       omega (arith, ap length first, met .stands, offset-least (passed text at done s out) at)
 
+  -- what is printed from here on is the answers, and what is printed from where the run ended on
+  pub run-then : transcript (lines (drop at text)) done s ≡
+      take (ran .length) written ++ transcript (lines (drop (ran .at) text)) (ran .done) (session (ran .days) then)
+  run-then =
+      let ls : List (List ℕ) = passed text at done s out in
+      let first = runnable-first (lines (drop at text)) done s (length out) in
+      let ms : List (List ℕ) = first .0 in
+      let rest : transcript (lines (drop (ran .at) text)) (ran .done) (session (ran .days) then) ≡ transcript ms (done + length ls) (sessionAfter ls s) =
+      ap (λ (l : List (List ℕ)). transcript l (ran .done) (session (ran .days) then)) (ap (λ (k : ℕ). lines (drop k text)) (met .stands) ∙ lines-after ls ms text at (first .1)) ∙
+      ap₂ (transcript ms) (met .counts) (met .leaves) in
+      ap (λ (l : List (List ℕ)). transcript l done s) (first .1) ∙
+      transcript-join ms ls done s ∙
+      sym (ap₂ (λ (a b : List ℕ). a ++ b) run-prints rest)
+
 -- from any offset on
 join : (text : List ℕ) (rs : List OneRun) (at done : ℕ) (s : Session) → Runs text at done s rs → printed rs ≡ transcript (lines (drop at text)) done s
 unfolding transcript lines
 join text [] at done s all = rw (drop-of-length-le text all) refl
 join text (r ∷ rs) at done s (met, more) =
-    let ls : List (List ℕ) = passed text at done s (r .lent) in
-    let first = runnable-first (lines (drop at text)) done s (length (r .lent)) in
-    let ms : List (List ℕ) = first .0 in
-    let rest : printed rs ≡ transcript ms (done + length ls) (sessionAfter ls s) =
-    join text rs (r .ran .at) (r .ran .done) (session (r .ran .days) (r .then)) more ∙
-    ap (λ (l : List (List ℕ)). transcript l (r .ran .done) (session (r .ran .days) (r .then))) (ap (λ (k : ℕ). lines (drop k text)) (met .stands) ∙ lines-after ls ms text at (first .1)) ∙
-    ap₂ (transcript ms) (met .counts) (met .leaves) in
-    ap₂ (λ (a b : List ℕ). a ++ b) (run-prints text at done s (r .lent) (r .ran) (r .then) (r .written) text met) rest ∙
-    sym (transcript-join ms ls done s) ∙
-    ap (λ (l : List (List ℕ)). transcript l done s) (sym (first .1))
+    ap (λ (t : List ℕ). take (r .ran .length) (r .written) ++ t) (join text rs (r .ran .at) (r .ran .done) (session (r .ran .days) (r .then)) more) ∙
+    sym (run-then text at done s (r .lent) (r .ran) (r .then) (r .written) text met)
 
 pub runs-join : RunsJoin
 runs-join text rs all = join text rs 0 0 fresh all

@@ -4,3 +4,5 @@ mod Stepping
 mod Short
 mod Running
 pub mod Joined
+pub mod Sent
+pub mod ReadBack

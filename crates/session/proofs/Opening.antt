@@ -10,22 +10,21 @@ use lib.IntN.{ℤ}
 use lib.ListN.{length, take, drop, take-append-drop}
 use lib.Seq.{length-take-le, sets-eq, take-at}
 use Rattle.account.specs.Account.{Account, account}
-use Rattle.profile.specs.Rows.{row}
-use Rattle.account.specs.Table.{openNumber}
-use Rattle.profile.specs.Limits.{spanMost, profileCount}
+use Rattle.profile.specs.Rows.{row, ifDone, zeros}
+use Rattle.account.specs.Refusals.{openNumber}
+use Rattle.profile.specs.Limits.{spanMost, isSpan, profileCount}
 use Rattle.script.specs.Numbers.{Listed}
-use Rattle.account.specs.Calls.{OpenMet, cleared, left, number}
-use Rattle.weights.specs.Choose.{spans}
+use Rattle.account.specs.Calls.{OpenMet, cleared, number}
 use Rattle.weights.specs.Means.{firstOut, someOut}
-use Rattle.weights.specs.Weights.{Outcome, outcome, unfit, zeros, weightsOf}
+use Rattle.weights.specs.Weights.{Outcome, outcome, unfit, weightsOf}
 use Rattle.weights.specs.Weights as weights
 use Rattle.weights.specs.declared.WeightsAnswer.{WeightsAnswer}
 use Rattle.weights.specs.declared.WeightsAnswer.the-variants.{Done, Unfit, NoProfile, NoWeekday, OutOfRange}
 use Rattle.account.specs.declared.Answer.{Answer}
 use Rattle.session.specs.Buffers.{laid}
-use Rattle.session.specs.Calls.{offered, candidate, opensNumber, openedNumber, openedDays, openedBuffers, OpenedMet}
+use Rattle.session.specs.Calls.{offered, candidate, opensNumber, openedNumber, OpenedMet}
 use Rattle.session.specs.declared.Opened.{Opened}
-use Rattle.session.proofs.Parts.{take-least, over-take}
+use Rattle.session.proofs.Parts.{take-least}
 
 -- an answer that refuses an offer and leaves the buffers
 pub refused-met : (o : Outcome) (b : Account) (r : Opened) → r .number ≡ openedNumber o b → (openedNumber o b ≡ 0 → ⊥) →
@@ -69,7 +68,7 @@ module _ (ws : List ℕ) (b : Account) (n m c : ℕ) (marks counts : List ℕ) (
   opened-met r weights done zero place days over =
       let is : opensNumber ws b ≡ 0 = sym number-opens ∙ done in
       let clear : account ws marks counts ≡ cleared (candidate ws b) =
-      met .leaves ∙ ap (λ (n : ℕ). left n (cleared taken) taken) (sym (met .answers) ∙ done) ∙ ap cleared lent in
+      met .leaves ∙ ap (λ (n : ℕ). ifDone n (cleared taken) taken) (sym (met .answers) ∙ done) ∙ ap cleared lent in
       record {
         answers = zero ∙ sym is;
         places = place;
@@ -142,12 +141,12 @@ offer-is o ws zero place is =
     ap (λ (l : List ℕ). record { number = o .number; place = o .place; memory = l }) is
 
 -- means for no day, or for more than a span has
-pub unspanned : (profile weekday : ℕ) (means : List ℤ) (x : List ℕ) → spans (length means - 3) ≡ false →
+pub unspanned : (profile weekday : ℕ) (means : List ℤ) (x : List ℕ) → isSpan (length means - 3) ≡ false →
     (outcome profile weekday means x .number ≡ 3) × (outcome profile weekday means x .place ≡ 0)
 unspanned profile weekday means x e = (simp e, simp e)
 
-pub too-few : (n : ℕ) → n < 1 → spans n ≡ false
+pub too-few : (n : ℕ) → n < 1 → isSpan n ≡ false
 too-few n h = simp (lt-leb 1 n h)
 
-pub too-long : (n : ℕ) → spanMost < n → spans n ≡ false
+pub too-long : (n : ℕ) → spanMost < n → isSpan n ≡ false
 too-long n h = simp (lt-leb n spanMost h, and-false)

@@ -6,7 +6,7 @@ use native.Mathlib.Omega.{arith}
 use native.Mathlib.Numerals.{add-one}
 use native.Mathlib.Decide.{decLe}
 use lib.ListN.{length, getD, set, take, drop}
-use lib.Seq.{take-all, take-length, length-take-le, take-suc, drop-cons, set-at, take-at}
+use lib.Seq.{take-all, take-length, length-take-le, take-suc, drop-cons, set-at}
 use Rattle.account.specs.Account.{Account, account}
 use Rattle.script.specs.declared.Call.{Call}
 use Rattle.session.specs.Calls.{callNumber, after, CallMet, ChangeMet}

@@ -12,7 +12,7 @@ use lib.ListN.{length, take, drop, length-append, length-drop, drop-of-length-le
 use lib.Seq.{drop-drop, length-take-le, take-all, sets, sets-eq, length-sets}
 use borrow.Rule.Slice.PartMut.{midOf, postOf, putMid}
 use Rattle.account.specs.Account.{Account}
-use Rattle.account.proofs.Boundaries.{both}
+use Rattle.account.proofs.Below.{both}
 use Rattle.layout.specs.Text.{LaidOut}
 use Rattle.layout.proofs.Laid.{then-laid}
 use Rattle.script.proofs.Split.{upTo-short}

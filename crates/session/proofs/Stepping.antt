@@ -1,6 +1,6 @@
 -- What a line says and does, once its command is known. Assumes nothing.
 use Prim.Native.Nat.{ℕ}
-use mathlib.Core.Path.{_≡_, sym, ap, ap₂, subst⁻¹, _∙_}
+use mathlib.Core.Path.{_≡_, ap₂, subst⁻¹, _∙_}
 use mathlib.Core.Bool.{cond}
 use mathlib.Core.List.{List}
 use lib.Dec.{eqb}
@@ -9,7 +9,7 @@ use Rattle.weights.specs.Weights.{Outcome}
 use Rattle.layout.specs.Text.{LaidOut}
 use Rattle.script.specs.Calls.{commandOf}
 use Rattle.script.specs.declared.Command.{Command}
-use Rattle.session.specs.Calls.{OpenedMet, openedNumber, openedDays}
+use Rattle.session.specs.Calls.{OpenedMet}
 use Rattle.session.specs.Lines.{Session, session, says, next, answerText, openedSays, openedSession, StepMet}
 use Rattle.session.specs.declared.Opened.{Opened}
 use Rattle.session.specs.declared.Said.{Said}

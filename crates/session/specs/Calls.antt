@@ -1,19 +1,14 @@
 -- One call of a script on a session's buffers: the number answered and what the buffers hold after it.
 use Prim.Native.Nat.{ℕ, _+_, _-_}
 use mathlib.Core.Path.{_≡_}
-use mathlib.Core.Bool.{Bool, cond}
 use mathlib.Core.List.{List}
-use lib.Dec.{eqb, ltb}
-use lib.IntN.{ℤ}
+use lib.Dec.{ltb}
 use lib.ListN.{length, take, replicate}
-use Rattle.account.specs.Account.{Account, account, days, shown}
-use Rattle.profile.specs.Rows.{row}
-use Rattle.account.specs.Table.{accountRows, openNumber, readingNumber, withdrawNumber, cutNumber, uncutNumber}
-use Rattle.account.specs.Calls.{left, cleared, readingPut, readingTaken, cutPut, cutTaken}
-use Rattle.statement.specs.Parts.{parts, written}
-use Rattle.statement.specs.Call.{statementRows}
+use Rattle.account.specs.Account.{Account, account, days}
+use Rattle.profile.specs.Rows.{row, ifDone}
+use Rattle.account.specs.Refusals.{openNumber, readingNumber, withdrawNumber, cutNumber, uncutNumber}
+use Rattle.account.specs.Calls.{cleared, readingPut, readingTaken, cutPut, cutTaken}
 use Rattle.weights.specs.Weights.{Outcome, outcome}
-use Rattle.layout.specs.Text.{statementText, refusalText}
 use Rattle.script.specs.Calls.{weightsIn, meansIn}
 use Rattle.script.specs.declared.Call.{Call}
 use Rattle.script.specs.declared.Call.the-variants.{Reading, Withdraw, Cut, Uncut}
@@ -34,7 +29,7 @@ called a (Cut k) = cutPut a k
 called a (Uncut k) = cutTaken a k
 
 abbrev pub after : Account → Call → Account
-after a c = left (callNumber a c) (called a c) a
+after a c = ifDone (callNumber a c) (called a c) a
 
 -- on an account itself, and on the account of n days that the buffers hold
 pub record CallMet (c : Call) (before : Account) (number : ℕ) (then : Account) : Type 0 where
@@ -64,14 +59,14 @@ abbrev pub opensNumber : List ℕ → Account → ℕ
 opensNumber ws b = row (ltb (length (b .weights)) (length ws)) 3 (openNumber (candidate ws b))
 
 abbrev pub openedNumber : Outcome → Account → ℕ
-openedNumber o b = cond (eqb (o .number) 0) (opensNumber (o .memory) b) (o .number)
+openedNumber o b = ifDone (o .number) (opensNumber (o .memory) b) (o .number)
 
 -- a refused `weights` or `days` leaves the account as it was
 abbrev pub openedDays : Outcome → Account → ℕ
-openedDays o b = cond (eqb (openedNumber o b) 0) (length (o .memory)) 0
+openedDays o b = ifDone (openedNumber o b) (length (o .memory)) 0
 
 abbrev pub openedBuffers : Outcome → Account → Account
-openedBuffers o b = cond (eqb (openedNumber o b) 0) (laid (cleared (candidate (o .memory) b)) b) b
+openedBuffers o b = ifDone (openedNumber o b) (laid (cleared (candidate (o .memory) b)) b) b
 
 pub record OpenedMet (o : Outcome) (before : Account) (opened : Opened) (then : Account) : Type 0 where
   pub answers : opened .number ≡ openedNumber o before

@@ -3,3 +3,4 @@ pub mod Calls
 pub mod Lines
 pub mod Transcript
 pub mod Script
+pub mod Numbers

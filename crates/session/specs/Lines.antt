@@ -6,6 +6,7 @@ use mathlib.Core.Path.{_≡_}
 use mathlib.Core.Bool.{cond}
 use mathlib.Core.List.{List, []}
 use lib.Dec.{eqb}
+use Rattle.profile.specs.Rows.{ifDone}
 use Rattle.account.specs.Account.{Account}
 use Rattle.weights.specs.Weights.{Outcome}
 use Rattle.layout.specs.Text.{doneText, refusalText, unknownText, LaidOut}
@@ -34,7 +35,7 @@ openedSays o s = answerText (openedNumber o (s .buffers)) (o .place)
 
 abbrev pub openedSession : Outcome → Session → Session
 openedSession o s =
-    session (cond (eqb (openedNumber o (s .buffers)) 0) (openedDays o (s .buffers)) (s .days)) (openedBuffers o (s .buffers))
+    session (ifDone (openedNumber o (s .buffers)) (openedDays o (s .buffers)) (s .days)) (openedBuffers o (s .buffers))
 
 -- what line number l says, as a command, and the session after it
 abbrev pub says : Command → List ℕ → ℕ → Session → List ℕ

@@ -2,7 +2,7 @@
 use Prim.Native.Nat.{ℕ, _+_, _≤_}
 use mathlib.Core.Path.{_≡_}
 use mathlib.Core.List.{List, [], _∷_, _++_}
-use lib.ListN.{length, take, replicate}
+use lib.ListN.{length, take, drop, replicate}
 use Rattle.profile.specs.Limits.{spanMost}
 use Rattle.account.specs.Account.{Account, account}
 use Rattle.script.specs.Input.{scriptMost, scriptOf}
@@ -17,6 +17,10 @@ fresh = session 0 (account (replicate spanMost 0) (replicate (spanMost + 1) 0) (
 -- what a script prints
 abbrev pub scriptText : List ℕ → List ℕ
 scriptText text = transcript (lines text) 0 fresh
+
+-- the next bytes of what an input's script prints, after so many that were sent
+abbrev pub Continues : List ℕ → ℕ → List ℕ → Type 0
+Continues input sent text = text ≡ take (length text) (drop sent (scriptText (scriptOf input)))
 
 -- a run: the slice that it was lent, what it answered, the buffers and the slice after it
 pub record OneRun : Type 0 where
@@ -37,10 +41,11 @@ abbrev pub printed : List OneRun → List ℕ
 printed [] = []
 printed (r ∷ rs) = take (r .ran .length) (r .written) ++ printed rs
 
--- whatever the runs and the room that each was lent, the script's text is printed
+-- whatever the runs and the room that each was lent, the script's text is printed (proofs/Joined, `runs-join`)
 abbrev pub RunsJoin : Type 0
 RunsJoin = (text : List ℕ) (rs : List OneRun) → Runs text 0 0 fresh rs → printed rs ≡ scriptText text
 
 -- so the console, which reads one byte more than a script can have and runs what of that is a script, prints the text of the input's script
+-- (`console-prints`)
 abbrev pub ConsolePrints : Type 0
 ConsolePrints = (input : List ℕ) (rs : List OneRun) → Runs (scriptOf (take (scriptMost + 1) input)) 0 0 fresh rs → printed rs ≡ scriptText (scriptOf input)

@@ -7,13 +7,13 @@ use native.Mathlib.Numerals.{add-one}
 use native.Mathlib.Omega.{arith}
 use lib.ListN.{length, replicate}
 use borrow.Author.Tests.{ne-eqb, eq-eqb, lt-ltb, le-ltb}
-use Rattle.account.specs.Boundaries.{howMany}
+use Rattle.account.specs.Below.{howMany}
 use Rattle.account.specs.Account.{Account, days, shown, unfit, sound}
 use Rattle.account.specs.Slices.{readsAt}
 use Rattle.profile.specs.Rows.{row}
-use Rattle.account.specs.Table.{accountRows}
+use Rattle.account.specs.Refusals.{accountRows}
 use Rattle.statement.specs.declared.StatementAnswer.the-variants.{Parts, Unfit, Unsound, TooFewReadings}
-use Rattle.statement.specs.Parts.{Outputs, outputs}
+use Rattle.statement.specs.Parts.{Outputs}
 use Rattle.statement.specs.Call.{StatementMet, unfitOutputs, zeroed}
 use Rattle.statement.specs.Progress.{Checked, Ready, Filled}
 use Rattle.statement.proofs.CodeSound.{checked-fit}
@@ -78,7 +78,7 @@ module _ (a : Account) (o : Outputs) where
   met-parts l c some o′ r h =
       let f = long-fit (days a) o l in
       let more = le-ltb _ _ some in
-      record { answers = rw (c .fits, f, c .good, more); counts = rw (c .fits, f, c .good, more) (h .counts); stays = refl; writes = rw (c .fits, f, c .good, more) (h .holds) }
+      record { answers = rw (c .fits, f, c .good, more); counts = rw (c .fits, f, c .good, more) (h .number); stays = refl; writes = rw (c .fits, f, c .good, more) (h .holds) }
 
   pub ready : Long (days a) o → Checked a → 2 ≤ howMany (shown a .readings .at) (suc (days a)) → (o′ : Outputs) → o′ ≡ zeroed o → Ready a o′
   ready l c some o′ clear =

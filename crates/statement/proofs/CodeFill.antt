@@ -6,12 +6,12 @@ use Prim.Native.Nat.{ℕ, suc, _+_, _≤_, _<_}
 use native.Mathlib.Numerals.{add-one}
 use native.Mathlib.Omega.{arith}
 use lib.ListN.{getD}
-use Rattle.account.specs.Boundaries.{howMany, first, last}
+use Rattle.account.specs.Below.{howMany, last}
 use Rattle.account.specs.Account.{Account, days, shown}
 use Rattle.account.specs.Slices.{Fit}
-use Rattle.account.proofs.Boundaries.{IsFirst, IsLast, clash, found, first-is, last-is}
+use Rattle.account.proofs.Below.{IsFirst, IsLast, clash, found, first-is, last-is}
 use Rattle.statement.specs.declared.Progress.{Progress}
-use Rattle.statement.specs.Parts.{Outputs, written}
+use Rattle.statement.specs.Parts.{Outputs}
 use Rattle.statement.specs.Progress.{NextReading, Checked, Interval, Written, Ready, Filled}
 use Rattle.statement.proofs.CodeSound.{checked-fit}
 use Rattle.statement.proofs.CodeWritten.{Long, written-first, written-last, written-long}
@@ -41,7 +41,7 @@ first-there a o h p is =
     omega arith
 
 pub reached-first : (a : Account) (o : Outputs) → Ready a o → (p q : ℕ) → NextReading (a .marks) 0 p → NextReading (a .marks) (p + 1) q →
-    Reached a q o (record { start = p; value = getD (a .counts) p 0; count = 0 })
+    Reached a q o (record { start = p; value = getD (a .counts) p 0; parts = 0 })
 reached-first a o h p q is after =
     let within = first-there a o h p is in
     let here = is .there (omega (arith, checked-fit a (h .checked))) in
@@ -69,8 +69,8 @@ module _ {a : Account} {q : ℕ} {o : Outputs} {d : Progress} (h : Reached a q o
         adjacent =
             record {
               ordered = omega (arith, h .next .after);
-              one = h .here;
-              other = h .next .there (omega (arith, reached-fit));
+              at-p = h .here;
+              at-q = h .next .there (omega (arith, reached-fit));
               none-between = λ k low high. h .next .none-before k (omega arith) high;
             };
         so-far = h .so-far;
@@ -84,8 +84,8 @@ module _ {a : Account} {q : ℕ} {o : Outputs} {d : Progress} (h : Reached a q o
       let here : d′ .start ≡ q = done .start ∙ rw (add-one q, there) in
       record { checked = h .checked; within = rw here within; here = rw here there; next = rw here after; so-far = subst (λ (m : ℕ). Written (a .weights) (shown a) (m + 1) o′ d′) (sym here) done }
 
-  pub reached-last : days a < q → Filled a o (d .count)
+  pub reached-last : days a < q → Filled a o (d .parts)
   reached-last past =
       let last-one : IsLast (shown a .readings .at) (suc (days a)) (d .start) = record { below = omega (arith, h .within); holds = h .here; none-after = λ j low high. h .next .none-before j (omega arith) (omega arith) } in
       let all = written-last (a .weights) (shown a) (d .start) o d (h .so-far) (last-is (shown a .readings .at) last-one) (h .within) in
-      record { holds = all .0; counts = all .1 }
+      record { holds = all .0; number = all .1 }

@@ -7,9 +7,9 @@ use native.Mathlib.Nat.{mul-le-mul-right}
 use native.Mathlib.Omega.{arith}
 use lib.ListN.{length, getD}
 use Rattle.profile.specs.Limits.{spanMost, weightMost}
-use Rattle.account.specs.Boundaries.{last}
+use Rattle.account.specs.Below.{last}
 use Rattle.account.specs.Account.{Account, days, shown}
-use Rattle.account.proofs.Boundaries.{IsLast, first-least, last-found, last-most}
+use Rattle.account.proofs.Below.{IsLast, first-least, last-found, last-most}
 use Rattle.account.proofs.Sound.{mark-most}
 use Rattle.statement.specs.declared.Progress.{Progress}
 use Rattle.statement.specs.Split.{weightSum, shareOf, between, has}
@@ -30,7 +30,7 @@ use Rattle.statement.proofs.CodeWritten.{written-same, written-none, wr
 pub record Within (a : Account) (p q low e z k zk : ℕ) (o : Outputs) (d : Progress) : Type 0 where
   pub checked : Checked a
   pub inside : q ≤ days a
-  pub adjacent : Adjacent (shown a .readings) p q
+  pub adjacent : Adjacent (shown a .readings .at) p q
   pub starts : low ≡ shown a .readings .count p
   pub energy : e ≡ shown a .readings .count q - low
   pub sum : z ≡ weightSum (a .weights) p q
@@ -48,7 +48,7 @@ pub record Room (a : Account) (p q : ℕ) : Type 0 where
   pub span : q ≤ spanMost
   pub rises : shown a .readings .count p ≤ shown a .readings .count q
 
-pub room : (a : Account) (p q : ℕ) → Checked a → Adjacent (shown a .readings) p q → q ≤ days a → Room a p q
+pub room : (a : Account) (p q : ℕ) → Checked a → Adjacent (shown a .readings .at) p q → q ≤ days a → Room a p q
 room a p q c between inside =
     let l = checked-fit a c in
     record {
@@ -63,7 +63,7 @@ room a p q c between inside =
 -- the next part starts at the reading p, which has what its count says
 pub starts-at : (a : Account) (q : ℕ) (o : Outputs) (d : Progress) → Interval a q o d → d .value ≡ shown a .readings .count (d .start)
 starts-at a q o d h =
-    h .so-far .value ∙ ap (has (a .weights) (shown a .readings)) (sym (h .so-far .start)) ∙ has-reading (a .weights) (shown a .readings) (d .start) (h .adjacent .one)
+    h .so-far .value ∙ ap (has (a .weights) (shown a .readings)) (sym (h .so-far .start)) ∙ has-reading (a .weights) (shown a .readings) (d .start) (h .adjacent .at-p)
 
 pub interval-summable : (a : Account) (q : ℕ) (o : Outputs) (d : Progress) → Interval a q o d → (k m : ℕ) → k ≤ m → m ≤ q → Summable (a .weights) k m
 interval-summable a q o d h k m low high =
@@ -99,7 +99,7 @@ module _ {a : Account} {p q low e z k zk : ℕ} {o : Outputs} {d : Progress} (h 
 
   pub within-splittable : shown a .readings .count q < 2 ^ 64 → Splittable low e zk z
   within-splittable fits =
-      let all = energy-between (days a) (shown a .readings) (fair .rises) p q (h .adjacent .ordered) (h .inside) (h .adjacent .one) (h .adjacent .other) in
+      let all = energy-between (days a) (shown a .readings) (fair .rises) p q (h .adjacent .ordered) (h .inside) (h .adjacent .at-p) (h .adjacent .at-q) in
       record {
         some = rw (h .sum) (sum-positive (a .weights) (fair .weights) p q (h .adjacent .ordered) (h .inside));
         share = rw (h .sum, h .share) (omega (arith, sum-splits (a .weights) p k q (omega (arith, h .after)) (h .upto)));
@@ -116,13 +116,13 @@ module _ {a : Account} {p q low e z k zk : ℕ} {o : Outputs} {d : Progress} (h 
 
   -- the next part starts at p or later
   started : IsLast (marked (shown a)) k (last (marked (shown a)) k)
-  started = last-found (marked (shown a)) k p (h .after) (rw (h .adjacent .one))
+  started = last-found (marked (shown a)) k p (h .after) (rw (h .adjacent .at-p))
 
   rises : d .value ≤ has (a .weights) (shown a .readings) k
   rises =
       rw (h .written .value)
       (has-mono (a .weights) (shown a .readings) fair p q (h .adjacent) (h .inside) (last (marked (shown a)) k) k
-      (last-most (marked (shown a)) started (h .after) (rw (h .adjacent .one))) (omega (arith, started .below)) (h .upto))
+      (last-most (marked (shown a)) started (h .after) (rw (h .adjacent .at-p))) (omega (arith, started .below)) (h .upto))
 
   addable : (v : ℕ) → v ≡ has (a .weights) (shown a .readings) k → Addable o d k v
   addable v is =
@@ -132,8 +132,8 @@ module _ {a : Account} {p q low e z k zk : ℕ} {o : Outputs} {d : Progress} (h 
       Written (a .weights) (shown a) (k + 1) (withPart o d k v) (nextPart d k v)
   added v is here =
       let at = shown a .readings .at in
-      let found = read (days a) (shown a .readings) q (h .inside) (h .adjacent .other) in
-      let ends : Ends (a .weights) (shown a) k = record { mark = here; after = omega (arith, first-least at (found .first) (h .adjacent .one), h .after); upto = omega (arith, last-most at (found .last) (omega (arith, h .inside)) (h .adjacent .other), h .upto) } in
+      let found = read (days a) (shown a .readings) q (h .inside) (h .adjacent .at-q) in
+      let ends : Ends (a .weights) (shown a) k = record { mark = here; after = omega (arith, first-least at (found .first) (h .adjacent .at-p), h .after); upto = omega (arith, last-most at (found .last) (omega (arith, h .inside)) (h .adjacent .at-q), h .upto) } in
       written-part (a .weights) (shown a) k o d v (h .written) ends (omega (arith, h .upto, h .inside)) is
 
   -- one boundary on, with whatever was written there
@@ -174,11 +174,11 @@ module _ {a : Account} {p q low e z k zk : ℕ} {o : Outputs} {d : Progress} (h 
       subst (λ (m : ℕ). Within a p q low e z m zk o d) there h
 
   value-end : getD (a .counts) q 0 ≡ has (a .weights) (shown a .readings) q
-  value-end = sym (has-reading (a .weights) (shown a .readings) q (h .adjacent .other))
+  value-end = sym (has-reading (a .weights) (shown a .readings) q (h .adjacent .at-q))
 
   pub within-end-addable : Addable o d q (getD (a .counts) q 0)
   within-end-addable = addable at-end (getD (a .counts) q 0) value-end
 
   pub within-end : {o′ : Outputs} {d′ : Progress} → o′ ≡ withPart o d q (getD (a .counts) q 0) → d′ ≡ nextPart d q (getD (a .counts) q 0) →
       Written (a .weights) (shown a) (q + 1) o′ d′
-  within-end same-o same-d = written-same (added at-end (getD (a .counts) q 0) value-end (rw (h .adjacent .other))) same-o same-d
+  within-end same-o same-d = written-same (added at-end (getD (a .counts) q 0) value-end (rw (h .adjacent .at-q))) same-o same-d

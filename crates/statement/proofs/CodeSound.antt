@@ -1,16 +1,14 @@
 -- What a checked account gives (Account and its calls, "Sound"): fair weights and readings, and the energy between two readings.
 -- Assumes nothing.
 use mathlib.Core.Path.{_≡_, refl}
-use mathlib.Core.Bool.{Bool, true, false, cond, _||_}
-use mathlib.Core.Logic.{⊎-elim}
+use mathlib.Core.Bool.{true, _||_}
 use Prim.Native.Nat.{ℕ, zero, suc, _-_, _≤_, _<_}
-use native.Mathlib.Nat.{eq-or-lt-of-le, le-of-suc-le-suc}
 use native.Mathlib.Omega.{arith}
-use Rattle.account.specs.Boundaries.{last}
-use Rattle.account.specs.Stands.{Readings, neverFalling, lastLessFirst, firstReading}
+use Rattle.account.specs.Stands.{Readings, neverFalling, lastLessFirst, firstReading, lastReading}
 use Rattle.account.specs.Account.{Account, shown, marksReading, marksCut}
 use Rattle.account.specs.Slices.{Fit}
-use Rattle.account.proofs.Boundaries.{clash, first-found, first-least, rising}
+use Rattle.account.proofs.Below.{first-found, last-found, first-least, last-most}
+use Rattle.account.proofs.Pairs.{pairs}
 use Rattle.account.proofs.Sound.{Sound, fit, sound-parts}
 use Rattle.statement.specs.Progress.{Checked}
 use Rattle.statement.proofs.Order.{fair-of-sound}
@@ -34,31 +32,14 @@ mark-counts (suc (suc zero)) h some = refl
 mark-counts (suc (suc (suc zero))) h some = refl
 mark-counts (suc (suc (suc (suc m)))) h some = absurd (omega arith)
 
--- no reading has more than the last one
-below-last : (r : Readings) (m : ℕ) → ((k : ℕ) → k < m → r .at k ≡ true → r .count (last (r .at) k) ≤ r .count k) →
-    (k : ℕ) → k < m → r .at k ≡ true → r .count k ≤ r .count (last (r .at) m)
-unfolding last
-below-last r zero rises k h at = absurd (omega arith)
-below-last r (suc m) rises k h at =
-    go (λ less. below-last r m (λ j l. rises j (omega arith)) k less at) (r .at m) refl
-  where
-    go : (k < m → r .count k ≤ r .count (last (r .at) m)) → (b : Bool) → r .at m ≡ b → r .count k ≤ r .count (cond (r .at m) m (last (r .at) m))
-    go rest true e =
-        rw e
-        (⊎-elim (λ same. rw same (omega arith)) (λ less. omega (arith, rest less, rises m (omega arith) e)) (eq-or-lt-of-le (le-of-suc-le-suc h)))
-    go rest false e =
-        rw e (⊎-elim (λ same. absurd (clash at (rw (← same) at e))) rest (eq-or-lt-of-le (le-of-suc-le-suc h)))
-
-module _ (n : ℕ) (r : Readings) (falls : neverFalling r (suc n) ≡ true) where
-  -- an earlier reading has no more than a later one
-  pairwise : (p q : ℕ) → p < q → q ≤ n → r .at p ≡ true → r .at q ≡ true → r .count p ≤ r .count q
-  pairwise p q h within at-p at-q =
-      omega (arith, below-last r q (λ k l. rising r (suc n) falls k (omega arith)) p h at-p, rising r (suc n) falls q (omega arith) at-q)
-
-  -- between two readings lies no more than between the first and the last
-  pub energy-between : (p q : ℕ) → p < q → q ≤ n → r .at p ≡ true → r .at q ≡ true → r .count q - r .count p ≤ lastLessFirst n r
-  unfolding lastLessFirst
-  energy-between p q h within at-p at-q =
-      let is = first-found (r .at) (suc n) p (omega arith) at-p in
-      let low : r .count (firstReading n r) ≤ r .count p = ⊎-elim (λ same. rw same (omega arith)) (λ less. pairwise (firstReading n r) p less (omega arith) (is .holds) at-p) (eq-or-lt-of-le (first-least (r .at) is at-p)) in
-      omega (arith, below-last r (suc n) (rising r (suc n) falls) q (omega arith) at-q)
+-- between two readings lies no more than between the first and the last
+pub energy-between : (n : ℕ) (r : Readings) → neverFalling r (suc n) ≡ true → (p q : ℕ) → p < q → q ≤ n → r .at p ≡ true → r .at q ≡ true →
+    r .count q - r .count p ≤ lastLessFirst n r
+unfolding lastLessFirst
+energy-between n r falls p q h within at-p at-q =
+    let rises = pairs r (suc n) falls (suc n) (omega arith) in
+    let f = first-found (r .at) (suc n) p (omega arith) at-p in
+    let l = last-found (r .at) (suc n) q (omega arith) at-q in
+    let low = rises (firstReading n r) p (first-least (r .at) f at-p) (omega arith) (f .holds) at-p in
+    let high = rises q (lastReading n r) (last-most (r .at) l (omega arith) at-q) (l .below) at-q (l .holds) in
+    omega arith

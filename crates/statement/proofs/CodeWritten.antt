@@ -2,35 +2,34 @@
 -- Assumes nothing.
 use mathlib.Core.Path.{_≡_, refl, sym, ap, ap₂, _∙_}
 use mathlib.Core.Bool.{true, false}
-use mathlib.Core.List.{List, [], _∷_, _++_, map, map-append, append-nil, append-assoc}
+use mathlib.Core.List.{List, [], _∷_, _++_, map, map-append, append-assoc}
 use Prim.Native.Nat.{ℕ, zero, suc, _+_, _-_, _≤_, _<_}
 use native.Mathlib.Numerals.{add-one}
-use native.Mathlib.Decide.{le-ind}
 use native.Mathlib.Omega.{arith}
 use lib.ListN.{length, set, replicate, length-append, length-replicate, length-map}
 use lib.Seq.{set-append-seam}
-use Rattle.account.specs.Boundaries.{last}
+use Rattle.account.specs.Below.{last}
 use Rattle.account.specs.Stands.{Stands, firstReading, lastReading}
-use Rattle.account.proofs.Boundaries.{refuted}
 use Rattle.statement.specs.declared.Progress.{Progress}
 use Rattle.statement.specs.Split.{has}
-use Rattle.statement.specs.Parts.{Part, Outputs, outputs, marked, endsPart, partTo, partsBelow, parts, padded, written}
+use Rattle.profile.specs.Rows.{filled}
+use Rattle.statement.specs.Parts.{Part, Outputs, outputs, marked, partTo, partsBelow, parts, written}
 use Rattle.statement.proofs.Has.{has-reading}
-use Rattle.statement.proofs.Parts.{Ends, ends-is, is-end, parts-fit}
+use Rattle.statement.proofs.Parts.{Ends, is-end, below-part, below-none, none-until, none-more, parts-fit}
 use Rattle.statement.specs.Progress.{Written, Addable, withPart, nextPart}
 
--- Lists padded with zeros.
-padded-long : (n : ℕ) (xs : List ℕ) → length xs ≤ n → length (padded n xs) ≡ n
+-- Lists filled with zeros.
+padded-long : (n : ℕ) (xs : List ℕ) → length xs ≤ n → length (filled n xs) ≡ n
 padded-long n xs h = simp (length-append, length-replicate) (omega arith)
 
-padded-set : (n : ℕ) (xs : List ℕ) (x : ℕ) → length xs < n → set (padded n xs) (length xs) x ≡ padded n (xs ++ (x ∷ []))
+padded-set : (n : ℕ) (xs : List ℕ) (x : ℕ) → length xs < n → set (filled n xs) (length xs) x ≡ filled n (xs ++ (x ∷ []))
 padded-set n xs x h =
     let more : n - length xs ≡ suc (n - length (xs ++ (x ∷ []))) = simp length-append (omega arith) in
     rw more (set-append-seam xs 0 (replicate (n - length (xs ++ (x ∷ []))) 0) x ∙ sym (append-assoc xs (x ∷ []) _))
 
 -- one field of the next part is stored
 stored : (n : ℕ) (ps : List Part) (part : Part) (f : Part → ℕ) (j v : ℕ) → j ≡ length ps → length ps < n → v ≡ f part →
-    set (padded n (map f ps)) j v ≡ padded n (map f (ps ++ (part ∷ [])))
+    set (filled n (map f ps)) j v ≡ filled n (map f (ps ++ (part ∷ [])))
 stored n ps part f j v here room same =
     let at : j ≡ length (map f ps) = here ∙ sym (length-map ps f) in
     let fits : length (map f ps) < n = rw (length-map ps f) room in
@@ -50,27 +49,6 @@ pub record Long (n : ℕ) (o : Outputs) : Type 0 where
   pub wh : length (o .wh) ≡ n
 
 module _ (w : List ℕ) (s : Stands) where
-  -- what ends at m comes last, and nothing does where no part ends
-  below-part : (m : ℕ) → endsPart w s m ≡ true → partsBelow w s (suc m) ≡ partsBelow w s m ++ (partTo w s m ∷ [])
-  unfolding partsBelow
-  below-part m ends = rw ends
-
-  below-none : (m : ℕ) → endsPart w s m ≡ false → partsBelow w s (suc m) ≡ partsBelow w s m
-  unfolding partsBelow
-  below-none m ends = rw ends (append-nil _)
-
-  -- no part ends up to the first reading, nor after the last
-  before-first : (k : ℕ) → k ≤ firstReading (length w) (s .readings) → endsPart w s k ≡ false
-  before-first k h = refuted (endsPart w s k) (λ e. omega (arith, ends-is w s k e .after))
-
-  after-last : (k : ℕ) → lastReading (length w) (s .readings) < k → endsPart w s k ≡ false
-  after-last k h = refuted (endsPart w s k) (λ e. omega (arith, ends-is w s k e .upto))
-
-  none-until : (m : ℕ) → m ≤ suc (firstReading (length w) (s .readings)) → partsBelow w s m ≡ []
-  unfolding partsBelow
-  none-until zero h = refl
-  none-until (suc m) h = below-none m (before-first m (omega arith)) ∙ none-until m (omega arith)
-
   -- there are fewer parts than boundaries
   fewer : (m : ℕ) → 0 < m → length (partsBelow w s m) < m
   fewer zero h = absurd (omega arith)
@@ -79,8 +57,8 @@ module _ (w : List ℕ) (s : Stands) where
   pub written-none : (m : ℕ) (o : Outputs) (d : Progress) → Written w s m o d → marked s m ≡ false → Written w s (m + 1) o d
   unfolding last
   written-none m o d h bare =
-      let same : partsBelow w s (suc m) ≡ partsBelow w s m = below-none m (rw bare) in
-      rw add-one (record { holds = rw same (h .holds); count = rw same (h .count); start = rw bare (h .start); value = rw bare (h .value) })
+      let same : partsBelow w s (suc m) ≡ partsBelow w s m = below-none w s m (rw bare) in
+      rw add-one (record { holds = rw same (h .holds); parts = rw same (h .parts); start = rw bare (h .start); value = rw bare (h .value) })
 
   pub written-part : (m : ℕ) (o : Outputs) (d : Progress) (v : ℕ) → Written w s m o d → Ends w s m → m ≤ length w →
       v ≡ has w (s .readings) m → Written w s (m + 1) (withPart o d m v) (nextPart d m v)
@@ -90,15 +68,15 @@ module _ (w : List ℕ) (s : Stands) where
       let ps = partsBelow w s m in
       let part = partTo w s m in
       let room : length ps < length w = omega (arith, fewer m (omega (arith, ends .after))) in
-      let next = below-part m (is-end w s m ends) in
-      let store : (f : Part → ℕ) (x : ℕ) → x ≡ f part → set (padded (length w) (map f ps)) (d .count) x ≡ padded (length w) (map f (ps ++ (part ∷ []))) = λ f x same. stored (length w) ps part f (d .count) x (h .count) room same in
+      let next = below-part w s m (is-end w s m ends) in
+      let store : (f : Part → ℕ) (x : ℕ) → x ≡ f part → set (filled (length w) (map f ps)) (d .parts) x ≡ filled (length w) (map f (ps ++ (part ∷ []))) = λ f x same. stored (length w) ps part f (d .parts) x (h .parts) room same in
       rw (add-one m)
       (record {
         holds =
             ap {B = Outputs} (λ (x : Outputs). withPart x d m v) (h .holds) ∙
             outputs-same (store (λ p. p .from) (d .start) (h .start)) (store (λ p. p .to) m refl) (store (λ p. p .wh) (v - d .value) (ap₂ _-_ is (h .value))) ∙
             ap (written (length w)) (sym next);
-        count = rw (next, length-append) (omega arith);
+        parts = rw (next, length-append) (omega arith);
         start = rw here;
         value = rw (here, is);
       })
@@ -106,13 +84,13 @@ module _ (w : List ℕ) (s : Stands) where
   -- the outputs keep the length n
   pub written-long : (m : ℕ) (o : Outputs) (d : Progress) → Written w s m o d → 0 < m → m ≤ suc (length w) → Long (length w) o
   written-long m o d h above within =
-      let keeps : (f : Part → ℕ) → length (padded (length w) (map f (partsBelow w s m))) ≡ length w = λ f. padded-long (length w) (map f (partsBelow w s m)) (rw (length-map (partsBelow w s m) f) (omega (arith, fewer m above))) in
+      let keeps : (f : Part → ℕ) → length (filled (length w) (map f (partsBelow w s m))) ≡ length w = λ f. padded-long (length w) (map f (partsBelow w s m)) (rw (length-map (partsBelow w s m) f) (omega (arith, fewer m above))) in
       rw (h .holds) (record { from = keeps (λ p. p .from); to = keeps (λ p. p .to); wh = keeps (λ p. p .wh) })
 
   pub written-addable : (m : ℕ) (o : Outputs) (d : Progress) (v : ℕ) → Written w s m o d → last (marked s) m < m → m ≤ length w → m < 65_536 →
       d .value ≤ v → Addable o d m v
   written-addable m o d v h below within small rises =
-      let fits : d .count < length w = omega (arith, fewer m (omega arith), h .count) in
+      let fits : d .parts < length w = omega (arith, fewer m (omega arith), h .parts) in
       let keeps = written-long m o d h (omega arith) (omega arith) in
       record {
         from = omega arith;
@@ -125,25 +103,21 @@ module _ (w : List ℕ) (s : Stands) where
 
   -- at the first reading nothing is written yet
   pub written-first : (p : ℕ) (o : Outputs) → firstReading (length w) (s .readings) ≡ p → s .readings .at p ≡ true → o ≡ written (length w) [] →
-      Written w s (p + 1) o (record { start = p; value = s .readings .count p; count = 0 })
+      Written w s (p + 1) o (record { start = p; value = s .readings .count p; parts = 0 })
   unfolding last
   written-first p o is here clear =
-      let none : partsBelow w s (suc p) ≡ [] = none-until (suc p) (omega arith) in
+      let none : partsBelow w s (suc p) ≡ [] = none-until w s (suc p) (omega arith) in
       rw (add-one p)
       (record {
         holds = rw none clear;
-        count = rw none;
+        parts = rw none;
         start = rw here;
         value = rw here (sym (has-reading w (s .readings) p here));
       })
 
   -- at the last reading all is written
-  none-more : (p : ℕ) → lastReading (length w) (s .readings) ≡ p → p ≤ length w → partsBelow w s (suc (length w)) ≡ partsBelow w s (suc p)
-  none-more p is within =
-      le-ind (λ m. partsBelow w s m ≡ partsBelow w s (suc p)) refl (λ m h rest. below-none m (after-last m (omega arith)) ∙ rest) (suc (length w)) (omega arith)
-
   pub written-last : (p : ℕ) (o : Outputs) (d : Progress) → Written w s (p + 1) o d → lastReading (length w) (s .readings) ≡ p → p ≤ length w →
-      (o ≡ written (length w) (parts w s)) × (d .count ≡ length (parts w s))
+      (o ≡ written (length w) (parts w s)) × (d .parts ≡ length (parts w s))
   written-last p o d h is within =
-      let same = none-more p is within ∙ ap (partsBelow w s) (sym (add-one p)) in
-      (h .holds ∙ ap (written (length w)) (sym same), h .count ∙ ap length (sym same))
+      let same = none-more w s p is within ∙ ap (partsBelow w s) (sym (add-one p)) in
+      (h .holds ∙ ap (written (length w)) (sym same), h .parts ∙ ap length (sym same))

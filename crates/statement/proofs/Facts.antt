@@ -2,21 +2,20 @@
 -- the parts add up to last less first, each is less than 1 Wh from its exact share, and the energy from a reading to a marked boundary
 -- is fixed by the two readings that enclose it, their counts and the weights between.
 use mathlib.Core.Path.{_≡_, refl}
-use mathlib.Core.Bool.{true, false}
+use mathlib.Core.Bool.{true}
 use mathlib.Core.List.{List}
 use Prim.Native.Nat.{ℕ, zero, suc, _-_, _≤_, _<_}
 use native.Mathlib.Omega.{arith}
-use lib.Dec.{ltb}
 use lib.ListN.{length, getD}
-use borrow.Author.Tests.{le-leb, ltb-false}
-use Rattle.account.specs.Boundaries.{howMany, last}
-use Rattle.account.specs.Stands.{Stands, Readings, firstReading, lastReading, lastLessFirst}
-use Rattle.account.proofs.Boundaries.{found, first-least, last-found, last-most}
+use borrow.Author.Tests.{le-leb}
+use Rattle.account.specs.Below.{last}
+use Rattle.account.specs.Stands.{Stands, firstReading, lastReading, lastLessFirst}
+use Rattle.account.proofs.Below.{first-least, last-found, last-most}
 use Rattle.statement.specs.Split.{weightSum, shareOf, between, earlier, later}
 use Rattle.statement.specs.Parts.{Outputs, marked, parts}
 use Rattle.statement.specs.Shares.{Adjacent, Shared, total, energy}
-use Rattle.statement.specs.Facts.{Fair, TwoRead, statementOf, SumsUp, SharesClose, SameEnergy}
-use Rattle.statement.proofs.Order.{Read, read}
+use Rattle.statement.specs.Facts.{Fair, statementOf, SumsUp, SharesClose, SameEnergy}
+use Rattle.statement.proofs.Order.{read, some-read}
 use Rattle.statement.proofs.Has.{has-reading, has-between}
 use Rattle.statement.proofs.Near.{near}
 use Rattle.statement.proofs.Parts.{energy-written, each-written}
@@ -29,11 +28,6 @@ total-energy o a b zero inside = refl
 total-energy o a b (suc m) inside =
     let (lo, hi) = inside m (omega arith) in
     rw (le-leb a _ lo, le-leb _ b hi, total-energy o a b m (λ i h. inside i (omega arith)))
-
-some-read : (n : ℕ) (r : Readings) → ltb (howMany (r .at) (suc n)) 2 ≡ false → Read n r
-some-read n r two =
-    let k = found (r .at) (suc n) (omega (arith, ltb-false (howMany (r .at) (suc n)) 2 two)) in
-    read n r (k .0) (omega (arith, k .1)) (k .2)
 
 -- the parts add up to last less first
 pub sums-up : SumsUp
@@ -76,21 +70,21 @@ shared w s fair two =
 
 module _ (w : List ℕ) (s : Stands) (fair : Fair w (s .readings)) where
   -- the energy between a reading and a marked boundary is the boundary's share of what the next reading has more
-  pub energy-is : (p q b : ℕ) → Adjacent (s .readings) p q → q ≤ length w → p ≤ b → b ≤ q → marked s b ≡ true →
+  pub energy-is : (p q b : ℕ) → Adjacent (s .readings .at) p q → q ≤ length w → p ≤ b → b ≤ q → marked s b ≡ true →
       energy (statementOf w s) p b (length (parts w s)) ≡
       shareOf (s .readings .count q - s .readings .count p) (weightSum w p b) (weightSum w p q)
   unfolding between
   energy-is p q b a inside low high mark =
       let r = s .readings in
-      let is = read (length w) r q inside (a .other) in
-      let mark-p : marked s p ≡ true = rw (a .one) in
-      let from = first-least (r .at) (is .first) (a .one) in
-      let upto = last-most (r .at) (is .last) (omega arith) (a .other) in
+      let is = read (length w) r q inside (a .at-q) in
+      let mark-p : marked s p ≡ true = rw (a .at-p) in
+      let from = first-least (r .at) (is .first) (a .at-p) in
+      let upto = last-most (r .at) (is .last) (omega arith) (a .at-q) in
       omega (
         arith,
         energy-written p b (length w) (parts w s),
         telescopes w s is fair p b mark-p mark from low (omega arith),
-        has-reading w r p (a .one),
+        has-reading w r p (a .at-p),
         has-between w r fair p q a inside b low high,
       )
 

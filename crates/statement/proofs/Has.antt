@@ -7,7 +7,7 @@ use mathlib.Core.Logic.{⊎-elim}
 use Prim.Native.Nat.{ℕ, _-_, _*_, _≤_, _<_}
 use native.Mathlib.Nat.{eq-or-lt-of-le, mul-le-mul-left}
 use native.Mathlib.Omega.{arith}
-use lib.ListN.{length, getD}
+use lib.ListN.{length}
 use Rattle.rounding.proofs.Laws.{nearest-multiple, nearest-mono}
 use Rattle.account.specs.Stands.{Readings}
 use Rattle.statement.specs.Split.{weightSum, shareOf, between, has}
@@ -32,7 +32,7 @@ pub has-reading : (w : List ℕ) (r : Readings) (k : ℕ) → r .at k ≡ true �
 unfolding has
 has-reading w r k at = rw at
 
-module _ (w : List ℕ) (r : Readings) (fair : Fair w r) (p q : ℕ) (a : Adjacent r p q) (inside : q ≤ length w) where
+module _ (w : List ℕ) (r : Readings) (fair : Fair w r) (p q : ℕ) (a : Adjacent (r .at) p q) (inside : q ≤ length w) where
   whole : 0 < weightSum w p q
   whole = sum-positive w (fair .weights) p q (a .ordered) inside
 
@@ -56,9 +56,9 @@ module _ (w : List ℕ) (r : Readings) (fair : Fair w r) (p q : ℕ) (a : Adjace
   -- what a boundary has, from the reading at p to the reading at q
   pub has-between : (k : ℕ) → p ≤ k → k ≤ q → has w r k ≡ between w r p q k
   has-between k low high =
-      ⊎-elim (λ start. rw (← start) (has-reading w r p (a .one) ∙ sym at-start))
+      ⊎-elim (λ start. rw (← start) (has-reading w r p (a .at-p) ∙ sym at-start))
       (λ after.
-      ⊎-elim (λ end. rw end (has-reading w r q (a .other) ∙ sym at-end)) (λ before. strictly k after before) (eq-or-lt-of-le high))
+      ⊎-elim (λ end. rw end (has-reading w r q (a .at-q) ∙ sym at-end)) (λ before. strictly k after before) (eq-or-lt-of-le high))
       (eq-or-lt-of-le low)
 
   pub has-mono : (j k : ℕ) → p ≤ j → j ≤ k → k ≤ q → has w r j ≤ has w r k

@@ -4,6 +4,7 @@ pub mod Has
 pub mod Near
 pub mod Parts
 pub mod Telescope
+pub mod Successive
 pub mod Facts
 pub mod CodeSums
 pub mod CodeSound

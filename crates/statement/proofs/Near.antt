@@ -17,7 +17,7 @@ use Rattle.statement.proofs.Has.{has-between, has-mono}
 differ : (e x y z m d : ℕ) → IsNearest (e * x) z m → IsNearest (e * (x + y)) z (m + d) → (d * z < e * y + z) × (e * y < d * z + z)
 differ e x y z m d one other = (omega arith, omega arith)
 
-pub near : (w : List ℕ) (r : Readings) → Fair w r → (p q : ℕ) → Adjacent r p q → q ≤ length w →
+pub near : (w : List ℕ) (r : Readings) → Fair w r → (p q : ℕ) → Adjacent (r .at) p q → q ≤ length w →
     (f t : ℕ) → p ≤ f → f ≤ t → t ≤ q → NearShare w r p q f t (has w r t - has w r f)
 unfolding between shareOf
 near w r fair p q a inside f t low le high =

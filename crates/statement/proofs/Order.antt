@@ -1,15 +1,17 @@
 -- Which readings enclose a boundary (Account and its calls, "Statement"): adjacent readings, earlier and later, first and last.
 use mathlib.Core.Path.{_≡_}
-use mathlib.Core.Bool.{Bool, true, _&&_}
+use mathlib.Core.Bool.{Bool, true, false, _&&_}
 use mathlib.Core.List.{List}
 use Prim.Native.Nat.{ℕ, suc, _≤_, _<_}
 use native.Mathlib.Omega.{arith}
-use lib.Dec.{leb}
+use lib.Dec.{leb, ltb}
 use lib.ListN.{length}
-use borrow.Author.Tests.{le-leb, leb-true}
-use Rattle.account.specs.Stands.{Readings, neverFalling, firstReading, lastReading}
-use Rattle.account.specs.Account.{Account, days, shown, sound, goodWeights, goodMarks, zeroCounts}
-use Rattle.account.proofs.Boundaries.{IsFirst, IsLast, both, clash, refuted, first-found, first-is, last-found, last-is, rising}
+use borrow.Author.Tests.{le-leb, leb-true, ltb-false}
+use Rattle.account.specs.Below.{howMany}
+use Rattle.account.specs.Stands.{Readings, firstReading, lastReading}
+use Rattle.account.specs.Account.{Account, shown, sound}
+use Rattle.account.proofs.Below.{IsFirst, IsLast, found, both, clash, refuted, first-found, first-is, last-found, last-is}
+use Rattle.account.proofs.Pairs.{pairs}
 use Rattle.account.proofs.Sound.{sound-parts}
 use Rattle.statement.specs.Split.{earlier, later}
 use Rattle.statement.specs.Shares.{Adjacent}
@@ -20,7 +22,7 @@ fair-of-sound a h = let s = sound-parts a h in record { weights = s .weights; ri
 
 -- p and q are the adjacent readings with p < k ≤ q, in an account of n days
 pub record Encloses (n : ℕ) (r : Readings) (p q k : ℕ) : Type 0 where
-  pub adjacent : Adjacent r p q
+  pub adjacent : Adjacent (r .at) p q
   pub after : p < k
   pub upto : k ≤ q
   pub inside : q ≤ n
@@ -29,14 +31,14 @@ module _ (n : ℕ) (r : Readings) where
   pub earlier-is : (p q k : ℕ) → Encloses n r p q k → earlier r k ≡ p
   earlier-is p q k e =
       last-is (r .at)
-      (record { below = e .after; holds = e .adjacent .one; none-after = λ j lo hi. e .adjacent .none-between j lo (omega arith) })
+      (record { below = e .after; holds = e .adjacent .at-p; none-after = λ j lo hi. e .adjacent .none-between j lo (omega arith) })
 
   pub later-is : (p q k : ℕ) → Encloses n r p q k → later n r k ≡ q
   later-is p q k e =
       first-is (λ j. leb k j && r .at j)
       (record {
         below = omega arith;
-        holds = rw (le-leb k q (e .upto)) (e .adjacent .other);
+        holds = rw (le-leb k q (e .upto)) (e .adjacent .at-q);
         none-before =
             λ j lt. refuted _ λ h.
             let b = both (leb k j) (r .at j) h in
@@ -55,8 +57,8 @@ module _ (n : ℕ) (r : Readings) where
         adjacent =
             record {
               ordered = omega arith;
-              one = p .holds;
-              other = q-is .1;
+              at-p = p .holds;
+              at-q = q-is .1;
               none-between =
                   λ j lo hi. refuted _ λ h.
                   let late : j < k → ⊥ = λ lt. clash h (p .none-after j lo lt) in
@@ -77,8 +79,13 @@ pub read : (n : ℕ) (r : Readings) (k : ℕ) → k ≤ n → r .at k ≡ true �
 read n r k h at =
     record { first = first-found (r .at) (suc n) k (omega arith) at; last = last-found (r .at) (suc n) k (omega arith) at }
 
+pub some-read : (n : ℕ) (r : Readings) → ltb (howMany (r .at) (suc n)) 2 ≡ false → Read n r
+some-read n r two =
+    let k = found (r .at) (suc n) (omega (arith, ltb-false (howMany (r .at) (suc n)) 2 two)) in
+    read n r (k .0) (omega (arith, k .1)) (k .2)
+
 module _ (w : List ℕ) (r : Readings) (fair : Fair w r) where
-  pub adjacent-rise : (p q : ℕ) → Adjacent r p q → q ≤ length w → r .count p ≤ r .count q
+  pub adjacent-rise : (p q : ℕ) → Adjacent (r .at) p q → q ≤ length w → r .count p ≤ r .count q
   adjacent-rise p q a h =
-      let is = earlier-is (length w) r p q q (record { adjacent = a; after = a .ordered; upto = omega arith; inside = h }) in
-      rw is at (rising r (suc (length w)) (fair .rises) q (omega arith) (a .other))
+      let n = length w in
+      pairs r (suc n) (fair .rises) (suc n) (omega arith) p q (omega arith) (omega arith) (a .at-p) (a .at-q)

@@ -6,16 +6,22 @@ use mathlib.Core.List.{List, [], _∷_, _++_, map, append-nil}
 use mathlib.Core.Logic.{⊎-elim}
 use Prim.Native.Nat.{ℕ, zero, suc, _+_, _≤_, _<_}
 use native.Mathlib.Nat.{eq-or-lt-of-le}
+use native.Mathlib.Decide.{le-ind}
 use native.Mathlib.Omega.{arith}
 use lib.Dec.{leb, ltb}
 use lib.ListN.{length, getD, take, length-append, length-map, List·getD-append, List·getD-map}
 use lib.Seq.{getD-at, take-suc, take-length}
 use borrow.Author.Tests.{ltb-true, leb-true, lt-ltb, le-leb, lt-leb}
 use Rattle.account.specs.Stands.{Stands, firstReading, lastReading}
-use Rattle.account.proofs.Boundaries.{both}
-use Rattle.statement.specs.Parts.{Part, Outputs, marked, endsPart, partTo, partsBelow, parts, padded, written}
+use Rattle.account.proofs.Below.{clash, refuted}
+use Rattle.profile.specs.Rows.{filled}
+use Rattle.statement.specs.Parts.{Part, marked, endsPart, partTo, partsBelow, parts, written}
 use Rattle.statement.specs.Shares.{energy}
 use Rattle.statement.specs.Facts.{statementOf}
+
+needed : (b : Bool) → (b ≡ false → ⊥) → b ≡ true
+needed true h = refl
+needed false h = absurd (h refl)
 
 at-most-one : (b : Bool) (x : Part) → length (cond b (x ∷ []) []) ≤ 1
 at-most-one true x = omega arith
@@ -30,12 +36,41 @@ module _ (w : List ℕ) (s : Stands) where
 
   pub ends-is : (k : ℕ) → endsPart w s k ≡ true → Ends k
   ends-is k h =
-      let b = both (marked s k) _ h in
-      let c = both (ltb (firstReading (length w) (s .readings)) k) _ (b .1) in
-      record { mark = b .0; after = ltb-true _ k (c .0); upto = leb-true k _ (c .1) }
+      let asked : (b : Bool) → (b ≡ false → endsPart w s k ≡ false) → b ≡ true = λ b none. needed b (λ e. clash h (none e)) in
+      record {
+        mark = asked (marked s k) (λ e. simp (e, and-false));
+        after = ltb-true _ k (asked (ltb (firstReading (length w) (s .readings)) k) (λ e. simp (e, and-false)));
+        upto = leb-true k _ (asked (leb k (lastReading (length w) (s .readings))) (λ e. simp (e, and-false)));
+      }
 
   pub is-end : (k : ℕ) → Ends k → endsPart w s k ≡ true
   is-end k e = rw (e .mark, lt-ltb _ k (e .after), le-leb k _ (e .upto))
+
+  -- what ends at m comes last, and nothing does where no part ends
+  pub below-part : (m : ℕ) → endsPart w s m ≡ true → partsBelow w s (suc m) ≡ partsBelow w s m ++ (partTo w s m ∷ [])
+  unfolding partsBelow
+  below-part m ends = rw ends
+
+  pub below-none : (m : ℕ) → endsPart w s m ≡ false → partsBelow w s (suc m) ≡ partsBelow w s m
+  unfolding partsBelow
+  below-none m ends = rw ends (append-nil _)
+
+  -- no part ends up to the first reading, nor after the last
+  before-first : (k : ℕ) → k ≤ firstReading (length w) (s .readings) → endsPart w s k ≡ false
+  before-first k h = refuted (endsPart w s k) (λ e. omega (arith, ends-is k e .after))
+
+  after-last : (k : ℕ) → lastReading (length w) (s .readings) < k → endsPart w s k ≡ false
+  after-last k h = refuted (endsPart w s k) (λ e. omega (arith, ends-is k e .upto))
+
+  pub none-until : (m : ℕ) → m ≤ suc (firstReading (length w) (s .readings)) → partsBelow w s m ≡ []
+  unfolding partsBelow
+  none-until zero h = refl
+  none-until (suc m) h = below-none m (before-first m (omega arith)) ∙ none-until m (omega arith)
+
+  -- all parts are those that end up to the last reading
+  pub none-more : (p : ℕ) → lastReading (length w) (s .readings) ≡ p → p ≤ length w → partsBelow w s (suc (length w)) ≡ partsBelow w s (suc p)
+  none-more p is within =
+      le-ind (λ m. partsBelow w s m ≡ partsBelow w s (suc p)) refl (λ m h rest. below-none m (after-last m (omega arith)) ∙ rest) (suc (length w)) (omega arith)
 
   -- what holds of the part to each boundary where one ends holds of each part
   each-part : (P : Part → Type 0) → ((k : ℕ) → Ends k → P (partTo w s k)) → (m : ℕ) (d : Part) (i : ℕ) →
@@ -107,11 +142,11 @@ energy-same w s a b m none = go (endsPart w s m) refl
     go true e = let is = ends-is w s m e in omega (arith, energy-more w s a b m is, none is)
     go false e = rw (e, append-nil)
 
-abbrev noPart : Part
+abbrev pub noPart : Part
 noPart = record { from = 0; to = 0; wh = 0 }
 
 -- the slices as written have the parts, one after the other
-written-at : (f : Part → ℕ) (n : ℕ) (ps : List Part) (i : ℕ) → i < length ps → getD (padded n (map f ps)) i (f noPart) ≡ f (getD ps i noPart)
+pub written-at : (f : Part → ℕ) (n : ℕ) (ps : List Part) (i : ℕ) → i < length ps → getD (filled n (map f ps)) i (f noPart) ≡ f (getD ps i noPart)
 written-at f n ps i h = List·getD-append (map f ps) _ (f noPart) i (rw length-map h) ∙ List·getD-map f ps i noPart
 
 -- what holds of the part to each boundary where one ends holds of each part as written

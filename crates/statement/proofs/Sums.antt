@@ -10,7 +10,7 @@ use lib.Dec.{leb}
 use lib.ListN.{length, getD}
 use borrow.Author.Tests.{le-leb, lt-leb, leb-true, leb-false}
 use Rattle.account.specs.Account.{goodWeight, goodWeights}
-use Rattle.account.proofs.Boundaries.{both, every-at}
+use Rattle.account.proofs.Below.{both, every-at}
 use Rattle.statement.specs.Split.{weightSum}
 
 weight-positive : (w : List ℕ) → goodWeights w ≡ true → (d : ℕ) → d < length w → 0 < getD w d 0

@@ -7,9 +7,9 @@ use Prim.Native.Nat.{ℕ, zero, suc, _+_, _≤_, _<_}
 use native.Mathlib.Nat.{eq-or-lt-of-le}
 use native.Mathlib.Omega.{arith}
 use lib.ListN.{length}
-use Rattle.account.specs.Boundaries.{last}
+use Rattle.account.specs.Below.{last}
 use Rattle.account.specs.Stands.{Stands, firstReading, lastReading}
-use Rattle.account.proofs.Boundaries.{clash, last-found, last-most}
+use Rattle.account.proofs.Below.{clash, last-found, last-most}
 use Rattle.statement.specs.Split.{earlier, later, has}
 use Rattle.statement.specs.Parts.{marked, partTo, partsBelow, parts}
 use Rattle.statement.specs.Facts.{Fair}
@@ -31,7 +31,7 @@ module _ (w : List ℕ) (s : Stands) (read : Read (length w) (s .readings)) wher
   pub lies : (k : ℕ) → Ends w s k → Lies k
   lies k ends =
       let e = enclosed (length w) (s .readings) _ _ k (read .first .holds) (read .last .holds) (ends .after) (ends .upto) (omega arith) in
-      let mark : marked s (earlier (s .readings) k) ≡ true = rw (e .adjacent .one) in
+      let mark : marked s (earlier (s .readings) k) ≡ true = rw (e .adjacent .at-p) in
       let l = last-found (marked s) k (earlier (s .readings) k) (e .after) mark in
       record { encloses = e; starts = last-most (marked s) l (e .after) mark; ahead = l .below }
 

@@ -3,11 +3,11 @@ use Prim.Native.Nat.{ℕ, suc}
 use mathlib.Core.Path.{_≡_}
 use mathlib.Core.Bool.{Bool, cond, not, _||_}
 use lib.Dec.{eqb, ltb}
-use lib.ListN.{length, replicate}
-use Rattle.account.specs.Boundaries.{howMany}
+use lib.ListN.{length}
+use Rattle.account.specs.Below.{howMany}
 use Rattle.account.specs.Stands.{Stands}
 use Rattle.account.specs.Account.{Account, days, shown, unfit, sound}
-use Rattle.profile.specs.Rows.{row}
+use Rattle.profile.specs.Rows.{row, ifDone, zeros}
 use Rattle.statement.specs.declared.StatementAnswer.{StatementAnswer}
 use Rattle.statement.specs.declared.StatementAnswer.the-variants.{Parts, Unfit, Unsound, TooFewReadings}
 use Rattle.statement.specs.Parts.{Outputs, outputs, parts, written}
@@ -42,14 +42,14 @@ statementNumber a o =
     (statementRows (days a) (shown a)))
 
 abbrev pub zeroed : Outputs → Outputs
-zeroed o = outputs (replicate (length (o .from)) 0) (replicate (length (o .to)) 0) (replicate (length (o .wh)) 0)
+zeroed o = outputs (zeros (o .from)) (zeros (o .to)) (zeros (o .wh))
 
 -- the outputs after a call that answers this number: the statement; zeros for 11; untouched for 3 and 5
-abbrev pub left : ℕ → Outputs → Outputs → Outputs
-left answered done before = cond (eqb answered 0) done (cond (eqb answered 11) (zeroed before) before)
+abbrev pub outputsAfter : ℕ → Outputs → Outputs → Outputs
+outputsAfter answered done before = ifDone answered done (cond (eqb answered 11) (zeroed before) before)
 
 pub record StatementMet (before : Account) (lent : Outputs) (answer : StatementAnswer) (after : Account) (out : Outputs) : Type 0 where
   pub answers : number answer ≡ statementNumber before lent
-  pub counts : partCount answer ≡ cond (eqb (statementNumber before lent) 0) (length (parts (before .weights) (shown before))) 0
+  pub counts : partCount answer ≡ ifDone (statementNumber before lent) (length (parts (before .weights) (shown before))) 0
   pub stays : after ≡ before
-  pub writes : out ≡ left (statementNumber before lent) (written (days before) (parts (before .weights) (shown before))) lent
+  pub writes : out ≡ outputsAfter (statementNumber before lent) (written (days before) (parts (before .weights) (shown before))) lent

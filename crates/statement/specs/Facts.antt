@@ -1,13 +1,14 @@
 -- The rule's own facts (Account and its calls, "Statement"; Buyer's note: "the closeness of shares [is] proved for the rules themselves,
--- whatever profile or n"). For any n, any good weights and any readings that never fall; proofs/Has.antt and proofs/Facts.antt prove them.
-use Prim.Native.Nat.{ℕ, suc, _≤_, _<_}
+-- whatever profile or n"). For any n, any good weights and any readings that never fall; proofs/Has.antt, proofs/Successive.antt and
+-- proofs/Facts.antt prove them.
+use Prim.Native.Nat.{ℕ, suc, _-_, _≤_, _<_}
 use mathlib.Core.Path.{_≡_}
-use mathlib.Core.Bool.{true, false}
+use mathlib.Core.Bool.{Bool, true, false, _&&_}
 use mathlib.Core.List.{List}
-use lib.Dec.{ltb}
+use lib.Dec.{leb, ltb}
 use lib.ListN.{length, getD}
-use Rattle.account.specs.Boundaries.{howMany}
-use Rattle.account.specs.Stands.{Stands, Readings, neverFalling, lastLessFirst}
+use Rattle.account.specs.Below.{howMany}
+use Rattle.account.specs.Stands.{Stands, Readings, neverFalling, firstReading, lastReading, lastLessFirst}
 use Rattle.account.specs.Account.{goodWeights}
 use Rattle.statement.specs.Split.{has}
 use Rattle.statement.specs.Parts.{Outputs, marked, parts, written}
@@ -19,8 +20,8 @@ pub record Fair (w : List ℕ) (r : Readings) : Type 0 where
   pub rises : neverFalling r (suc (length w)) ≡ true
 
 -- fewer than two readings is not the case
-abbrev pub TwoRead : List ℕ → Stands → Type 0
-TwoRead w s = ltb (howMany (s .readings .at) (suc (length w))) 2 ≡ false
+abbrev pub TwoReadings : List ℕ → Stands → Type 0
+TwoReadings w s = ltb (howMany (s .readings .at) (suc (length w))) 2 ≡ false
 
 -- the slices of a statement given
 abbrev pub statementOf : List ℕ → Stands → Outputs
@@ -29,20 +30,43 @@ statementOf w s = written (length w) (parts w s)
 -- What a boundary has depends only on its two enclosing readings, their counts and the weights between. (proofs/Has, `has-only`)
 abbrev pub EnclosedOnly : Type 0
 EnclosedOnly =
-    (v w : List ℕ) (r s : Readings) → Fair v r → Fair w s → (p q : ℕ) → Adjacent r p q → Adjacent s p q →
+    (v w : List ℕ) (r s : Readings) → Fair v r → Fair w s → (p q : ℕ) → Adjacent (r .at) p q → Adjacent (s .at) p q →
     q ≤ length v → q ≤ length w → r .count p ≡ s .count p → r .count q ≡ s .count q →
     ((d : ℕ) → p ≤ d → d < q → getD v d 0 ≡ getD w d 0) → (k : ℕ) → p ≤ k → k ≤ q → has v r k ≡ has w s k
+
+-- a boundary at which a part starts or ends: it is marked, and lies from the first reading to the last
+abbrev pub bounds : ℕ → Stands → ℕ → Bool
+bounds n s k = marked s k && (leb (firstReading n (s .readings)) k && leb k (lastReading n (s .readings)))
+
+-- "Parts run between successive marked boundaries from the first reading to the last": so do these m parts, over n days where s stands
+pub record Successive (n : ℕ) (s : Stands) (o : Outputs) (m : ℕ) : Type 0 where
+  -- there is a part
+  pub some : 0 < m
+  -- the first starts at the first reading
+  pub starts : getD (o .from) 0 0 ≡ firstReading n (s .readings)
+  -- the last ends at the last reading
+  pub ends : getD (o .to) (m - 1) 0 ≡ lastReading n (s .readings)
+  -- each next one starts where the one before ends
+  pub joined : (i : ℕ) → suc i < m → getD (o .from) (suc i) 0 ≡ getD (o .to) i 0
+  -- each runs from a marked boundary to the next: both are marked, and none between them is
+  pub each : (i : ℕ) → i < m → Adjacent (marked s) (getD (o .from) i 0) (getD (o .to) i 0)
+  -- there is one fewer than there are marked boundaries from the first reading to the last
+  pub number : suc m ≡ howMany (bounds n s) (suc n)
+
+-- The parts of every statement are successive. (proofs/Successive, `successive`)
+abbrev pub PartsSuccessive : Type 0
+PartsSuccessive = (w : List ℕ) (s : Stands) → TwoReadings w s → Successive (length w) s (statementOf w s) (length (parts w s))
 
 -- "Its parts add up exactly to the last standing reading less the first." (`sums-up`)
 abbrev pub SumsUp : Type 0
 SumsUp =
-    (w : List ℕ) (s : Stands) → Fair w (s .readings) → TwoRead w s →
+    (w : List ℕ) (s : Stands) → Fair w (s .readings) → TwoReadings w s →
     total (statementOf w s) (length (parts w s)) ≡ lastLessFirst (length w) (s .readings)
 
 -- "Each part is less than 1 Wh from its exact share between its two enclosing readings." (`shared`)
 abbrev pub SharesClose : Type 0
 SharesClose =
-    (w : List ℕ) (s : Stands) → Fair w (s .readings) → TwoRead w s → (i : ℕ) → i < length (parts w s) →
+    (w : List ℕ) (s : Stands) → Fair w (s .readings) → TwoReadings w s → (i : ℕ) → i < length (parts w s) →
     Shared w (s .readings) (getD (statementOf w s .from) i 0) (getD (statementOf w s .to) i 0) (getD (statementOf w s .wh) i 0)
 
 -- "Where the same two adjacent readings with the same counts enclose a marked boundary in two statements .., the energy between the
@@ -50,7 +74,7 @@ SharesClose =
 abbrev pub SameEnergy : Type 0
 SameEnergy =
     (w : List ℕ) (s t : Stands) → Fair w (s .readings) → Fair w (t .readings) → (p q b : ℕ) →
-    Adjacent (s .readings) p q → Adjacent (t .readings) p q →
+    Adjacent (s .readings .at) p q → Adjacent (t .readings .at) p q →
     s .readings .count p ≡ t .readings .count p → s .readings .count q ≡ t .readings .count q → q ≤ length w →
     p ≤ b → b ≤ q → marked s b ≡ true → marked t b ≡ true →
     energy (statementOf w s) p b (length (parts w s)) ≡ energy (statementOf w t) p b (length (parts w t))

@@ -4,8 +4,9 @@ use Prim.Native.Nat.{ℕ, zero, suc, _-_}
 use mathlib.Core.Bool.{Bool, cond, _&&_, _||_}
 use mathlib.Core.List.{List, [], _∷_, _++_, map}
 use lib.Dec.{leb, ltb}
-use lib.ListN.{length, replicate}
-use Rattle.account.specs.Boundaries.{last}
+use lib.ListN.{length}
+use Rattle.profile.specs.Rows.{filled}
+use Rattle.account.specs.Below.{last}
 use Rattle.account.specs.Stands.{Stands, firstReading, lastReading}
 use Rattle.statement.specs.Split.{has}
 
@@ -48,13 +49,9 @@ pub record Outputs : Type 0 where
 abbrev pub outputs : List ℕ → List ℕ → List ℕ → Outputs
 outputs f t e = record { from = f; to = t; wh = e }
 
--- xs, and zeros up to the length n
-abbrev pub padded : ℕ → List ℕ → List ℕ
-padded n xs = xs ++ replicate (n - length xs) 0
-
 abbrev pub written : ℕ → List Part → Outputs
 written n ps =
     outputs
-    (padded n (map (λ (p : Part). p .from) ps))
-    (padded n (map (λ (p : Part). p .to) ps))
-    (padded n (map (λ (p : Part). p .wh) ps))
+    (filled n (map (λ (p : Part). p .from) ps))
+    (filled n (map (λ (p : Part). p .to) ps))
+    (filled n (map (λ (p : Part). p .wh) ps))

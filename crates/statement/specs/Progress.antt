@@ -5,7 +5,7 @@ use mathlib.Core.Bool.{true, false}
 use mathlib.Core.List.{List, []}
 use lib.ListN.{length, getD, set}
 use Rattle.profile.specs.Limits.{spanMost, weightMost}
-use Rattle.account.specs.Boundaries.{howMany, last}
+use Rattle.account.specs.Below.{howMany, last}
 use Rattle.account.specs.Stands.{Stands}
 use Rattle.account.specs.Account.{Account, days, shown, unfit, sound, marksReading, goodWeights, energyMost}
 use Rattle.statement.specs.declared.Progress.{Progress}
@@ -40,10 +40,10 @@ pub record Checked (a : Account) : Type 0 where
   pub good : sound a ≡ true
 
 -- the outputs hold the parts that end below boundary m, and zeros past them;
--- the next part is number `count`, and starts at the boundary `start`, which has `value`
+-- so many `parts` there are, and the next starts at the boundary `start`, which has `value`
 pub record Written (w : List ℕ) (s : Stands) (m : ℕ) (o : Outputs) (d : Progress) : Type 0 where
   pub holds : o ≡ written (length w) (partsBelow w s m)
-  pub count : d .count ≡ length (partsBelow w s m)
+  pub parts : d .parts ≡ length (partsBelow w s m)
   pub start : d .start ≡ last (marked s) m
   pub value : d .value ≡ has w (s .readings) (last (marked s) m)
 
@@ -51,7 +51,7 @@ pub record Written (w : List ℕ) (s : Stands) (m : ℕ) (o : Outputs) (d : Prog
 pub record Interval (a : Account) (q : ℕ) (o : Outputs) (d : Progress) : Type 0 where
   pub checked : Checked a
   pub within : q ≤ days a
-  pub adjacent : Adjacent (shown a .readings) (d .start) q
+  pub adjacent : Adjacent (shown a .readings .at) (d .start) q
   pub so-far : Written (a .weights) (shown a) (d .start + 1) o d
 
 -- a checked account with a reading, and outputs that are zero
@@ -60,16 +60,16 @@ pub record Ready (a : Account) (o : Outputs) : Type 0 where
   pub some : 0 < howMany (shown a .readings .at) (suc (days a))
   pub clear : o ≡ written (days a) []
 
--- the outputs hold every part, and this is their number
-pub record Filled (a : Account) (o : Outputs) (count : ℕ) : Type 0 where
+-- the outputs hold every part, and m is their number
+pub record Filled (a : Account) (o : Outputs) (m : ℕ) : Type 0 where
   pub holds : o ≡ written (days a) (parts (a .weights) (shown a))
-  pub counts : count ≡ length (parts (a .weights) (shown a))
+  pub number : m ≡ length (parts (a .weights) (shown a))
 
 -- a part can be added: there is room for it, its boundaries fit 16 bits, and its end has at least what its start has
 pub record Addable (o : Outputs) (d : Progress) (end value : ℕ) : Type 0 where
-  pub from : d .count < length (o .from)
-  pub to : d .count < length (o .to)
-  pub wh : d .count < length (o .wh)
+  pub from : d .parts < length (o .from)
+  pub to : d .parts < length (o .to)
+  pub wh : d .parts < length (o .wh)
   pub starts : d .start < 65_536
   pub ends : end < 65_536
   pub rises : d .value ≤ value
@@ -78,9 +78,9 @@ pub record Addable (o : Outputs) (d : Progress) (end value : ℕ) : Type 0 where
 abbrev pub withPart : Outputs → Progress → ℕ → ℕ → Outputs
 withPart o d end value =
     outputs
-    (set (o .from) (d .count) (d .start))
-    (set (o .to) (d .count) end)
-    (set (o .wh) (d .count) (value - d .value))
+    (set (o .from) (d .parts) (d .start))
+    (set (o .to) (d .parts) end)
+    (set (o .wh) (d .parts) (value - d .value))
 
 abbrev pub nextPart : Progress → ℕ → ℕ → Progress
-nextPart d end value = record { start = end; value = value; count = d .count + 1 }
+nextPart d end value = record { start = end; value = value; parts = d .parts + 1 }

@@ -11,12 +11,12 @@ use Rattle.account.specs.Stands.{Readings}
 use Rattle.statement.specs.Split.{weightSum}
 use Rattle.statement.specs.Parts.{Outputs}
 
--- p and q are adjacent readings
-pub record Adjacent (r : Readings) (p q : ℕ) : Type 0 where
+-- p and q are adjacent among the boundaries at which this is so (a reading stands, or any mark)
+pub record Adjacent (at : ℕ → Bool) (p q : ℕ) : Type 0 where
   pub ordered : p < q
-  pub one : r .at p ≡ true
-  pub other : r .at q ≡ true
-  pub none-between : (k : ℕ) → p < k → k < q → r .at k ≡ false
+  pub at-p : at p ≡ true
+  pub at-q : at q ≡ true
+  pub none-between : (k : ℕ) → p < k → k < q → at k ≡ false
 
 -- the Wh of a part from f to t is less than 1 Wh from its exact share E × its weights / Z between the readings at p and q
 pub record NearShare (w : List ℕ) (r : Readings) (p q f t wh : ℕ) : Type 0 where
@@ -27,7 +27,7 @@ pub record NearShare (w : List ℕ) (r : Readings) (p q f t wh : ℕ) : Type 0 w
 pub record Shared (w : List ℕ) (r : Readings) (f t wh : ℕ) : Type 0 where
   pub p : ℕ
   pub q : ℕ
-  pub adjacent : Adjacent r p q
+  pub adjacent : Adjacent (r .at) p q
   pub starts : p ≤ f
   pub ends : t ≤ q
   pub near : NearShare w r p q f t wh

@@ -2,12 +2,12 @@
 -- difference E, weight sum Z, a boundary k between them has count(p) + nearest(E × Zk / Z), Zk being the weights from day p
 -- to day k-1. A reading's boundary has its count."
 use Prim.Native.Nat.{ℕ, zero, suc, _+_, _-_, _*_}
-use mathlib.Core.Bool.{Bool, cond, _&&_}
+use mathlib.Core.Bool.{cond, _&&_}
 use mathlib.Core.List.{List}
 use lib.Dec.{leb}
 use lib.ListN.{length, getD}
 use Rattle.rounding.specs.Nearest.{nearest}
-use Rattle.account.specs.Boundaries.{first, last}
+use Rattle.account.specs.Below.{first, last}
 use Rattle.account.specs.Stands.{Readings}
 
 -- the weights from day p to day k-1

@@ -22,11 +22,11 @@ pub enum StatementAnswer {
     TooFewReadings,
 }
 
-// How far a statement is written: the next part is number `count`, and starts at the boundary `start`, which has `value`.
+// How far a statement is written: so many `parts` are, and the next starts at the boundary `start`, which has `value`.
 struct Progress {
     start: usize,
     value: u64,
-    count: usize,
+    parts: usize,
 }
 
 // Writes the statement of an account into `from`, `to` and `wh`, and returns the number of its parts. Two readings and more have a part.
@@ -101,14 +101,14 @@ fn add_part(
     requires { ⌜ Addable (outputs (now from) (now to) (now wh)) done end value ⌝ }
     ensures { λ r. ⌜ (r ≡ nextPart done end value) × (outputs (now (from .exit)) (now (to .exit)) (now (wh .exit)) ≡ withPart (outputs (now (from .entry)) (now (to .entry)) (now (wh .entry))) done end value) ⌝ }
 {
-    let at = done.count;
+    let at = done.parts;
     from[at] = done.start as u16;
     to[at] = end as u16;
     wh[at] = value - done.value;
     Progress {
         start: end,
         value: value,
-        count: at + 1,
+        parts: at + 1,
     }
 }
 
@@ -162,12 +162,12 @@ fn fill(
     let mut done = Progress {
         start: first,
         value: counts[first],
-        count: 0,
+        parts: 0,
     };
     let mut q = next_reading(marks, first + 1);
     while q <= n {
         done = fill_interval(weights, marks, counts, q, from, to, wh, done);
         q = next_reading(marks, q + 1);
     }
-    done.count
+    done.parts
 }

@@ -1,7 +1,7 @@
 // Readings as the marks show them (Account and its calls). Every function is total.
 ghost use mathlib.Core.Path.{_≡_};
 ghost use lib.ListN.{length};
-ghost use Rattle.account.specs.Boundaries.{howMany};
+ghost use Rattle.account.specs.Below.{howMany};
 ghost use Rattle.account.specs.Account.{marksReading};
 ghost use Rattle.account.specs.Slices.{readsAt};
 ghost use Rattle.statement.specs.Progress.{NextReading};

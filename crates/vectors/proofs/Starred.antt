@@ -1,18 +1,21 @@
--- The starred cases, one fact about the rules: each answer is computed, but for the powers, where N and the exponent are any numbers.
+-- The starred cases, one fact about the rules: each answer is computed, but for the powers, where N and the exponent are any numbers, and
+-- for the customer value, where the weights are any with the sum.
 -- Assumes nothing.
 use mathlib.Core.Path.{_≡_, refl}
+use mathlib.Core.List.{List}
 use Prim.Native.Nat.{ℕ, _^_, _<_}
 use Rattle.power.specs.Power.{one, powerLow, powerHigh, pLow, pHigh}
 use Rattle.power.proofs.AtMostOne.{power-one}
 use Rattle.power.proofs.Laws.{low-one, high-one}
 use Rattle.profile.specs.Limits.{inRange}
-use Rattle.profile.specs.Table.{sumOf}
+use Rattle.profile.specs.Coefficients.{sumOf}
 use Rattle.weights.specs.Temperature.{temperatureOf}
 use Rattle.rounding.specs.Nearest.{nearest}
-use Rattle.account.specs.Boundaries.{every, some, howMany, first, last}
+use Rattle.customer.specs.Customer.{customerValue}
+use Rattle.account.specs.Below.{every, some, howMany, first, last}
 use Rattle.account.specs.Stands.{neverFalling, lastLessFirst}
 use Rattle.account.specs.Account.{goodWeights, goodMarks, zeroCounts}
-use Rattle.account.specs.Table.{outOfOrder}
+use Rattle.account.specs.Refusals.{outOfOrder}
 use Rattle.statement.specs.Split.{weightSum, shareOf, between, has}
 use Rattle.statement.specs.Parts.{partsBelow}
 use Rattle.vectors.specs.Starred.{Starred}
@@ -33,6 +36,10 @@ high-whole : (N C : ℕ) → 0 < N → pHigh N N C ≡ 2 ^ 30
 unfolding one
 high-whole N C h = high-one N N C h refl
 
+of-sum : (w : List ℕ) → sumOf w ≡ 379_356_309 → customerValue 958_000 w ≡ 25_253
+unfolding nearest
+of-sum w sum = rw sum
+
 pub starred : Starred
 unfolding inRange temperatureOf nearest every some howMany first last neverFalling lastLessFirst goodWeights goodMarks zeroCounts outOfOrder weightSum shareOf between has partsBelow sumOf
-starred = (((refl, refl), (refl, refl), (refl, refl)), (((refl, refl), refl, refl), ((low, high, low-whole, high-whole), ((refl, refl), (((refl, refl), (refl, refl), (refl, refl)), ((refl, refl, refl), ((refl, refl, refl, refl), ((refl, refl, refl), tt))))))))
+starred = (((refl, refl), (refl, refl), (refl, refl)), (((refl, refl), (refl, refl, refl), (refl, refl, refl), (refl, refl, refl), (refl, refl, refl)), ((low, high, low-whole, high-whole), ((refl, refl, refl), (((refl, refl, refl), (refl, refl, refl), (refl, refl, refl)), ((of-sum, refl, refl), ((refl, refl, refl, refl), ((refl, refl, refl), tt))))))))

@@ -8,11 +8,12 @@ use lib.IntN.{ℤ, pos}
 use lib.ListN.{length, replicate}
 use Rattle.power.specs.Power.{one, powerLow, powerHigh, pLow, pHigh}
 use Rattle.profile.specs.Limits.{minus}
-use Rattle.profile.specs.Table.{sumOf}
-use Rattle.weights.specs.Temperature.{temperatureNumber, temperatureValue}
+use Rattle.profile.specs.Coefficients.{sumOf}
+use Rattle.weights.specs.Temperature.{temperatureNumber, temperaturePlace, temperatureValue}
 use Rattle.account.specs.Account.{Account, account, days, shown}
-use Rattle.account.specs.Table.{openNumber, readingNumber, cutNumber}
-use Rattle.account.specs.Calls.{left, cleared, readingPut, cutPut}
+use Rattle.account.specs.Refusals.{openNumber, readingNumber, cutNumber}
+use Rattle.profile.specs.Rows.{ifDone}
+use Rattle.account.specs.Calls.{cleared, readingPut, cutPut}
 use Rattle.statement.specs.Parts.{Outputs, outputs, parts, written}
 use Rattle.statement.specs.Call as statement
 use Rattle.statement.specs.Call.{statementNumber}
@@ -27,15 +28,19 @@ Holds (line ∷ lines) = line × Holds lines
 abbrev Gives : ℤ → ℤ → ℤ → ℤ → ℤ → Type 0
 Gives a b c d t = (temperatureNumber a b c d ≡ 0) × (temperatureValue a b c d ≡ t)
 
+-- they are refused with 4 and this index
+abbrev Refused : ℤ → ℤ → ℤ → ℤ → ℕ → Type 0
+Refused a b c d index = (temperatureNumber a b c d ≡ 4) × (temperaturePlace a b c d ≡ index) × (temperatureValue a b c d ≡ pos 0)
+
 -- ---- an account after each call
 abbrev opening : Account → Account
-opening a = left (openNumber a) (cleared a) a
+opening a = ifDone (openNumber a) (cleared a) a
 
 abbrev reading : Account → ℕ → ℕ → Account
-reading a k v = left (readingNumber a k v) (readingPut a k v) a
+reading a k v = ifDone (readingNumber a k v) (readingPut a k v) a
 
 abbrev cut : Account → ℕ → Account
-cut a k = left (cutNumber a k) (cutPut a k) a
+cut a k = ifDone (cutNumber a k) (cutPut a k) a
 
 abbrev opened : List ℕ → Account
 opened w = opening (account w (replicate (length w + 1) 0) (replicate (length w + 1) 0))
@@ -54,11 +59,23 @@ abbrev lent : Account → Outputs
 lent a = outputs (replicate (days a) 9) (replicate (days a) 9) (replicate (days a) 9)
 
 abbrev stated : Account → Outputs
-stated a = statement.left (statementNumber a (lent a)) (written (days a) (parts (a .weights) (shown a))) (lent a)
+stated a = statement.outputsAfter (statementNumber a (lent a)) (written (days a) (parts (a .weights) (shown a))) (lent a)
 
--- this energy over these weights is given, and its parts have these Wh
+-- m boundaries, one after the other from k on
+abbrev upFrom : ℕ → ℕ → List ℕ
+upFrom k zero = []
+upFrom k (suc m) = k ∷ upFrom (suc k) m
+
+-- the statement of this account is given: a part for each day, from its start to its end, and with these Wh
+abbrev Daily : Account → List ℕ → Type 0
+Daily a wh =
+    (statementNumber a (lent a) ≡ 0) ×
+    (length (parts (a .weights) (shown a)) ≡ days a) ×
+    (stated a ≡ outputs (upFrom 0 (days a)) (upFrom 1 (days a)) wh)
+
+-- this energy over these weights is split into these Wh
 abbrev Split : ℕ → List ℕ → List ℕ → Type 0
-Split energy w wh = (statementNumber (metered energy w) (lent (metered energy w)) ≡ 0) × (stated (metered energy w) .wh ≡ wh)
+Split energy w wh = Daily (metered energy w) wh
 
 -- so many days of one weight
 abbrev equal : ℕ → List ℕ
@@ -76,8 +93,10 @@ table =
     Gives (minus 5_000) (minus 5_000) (minus 5_000) (minus 4_999) (minus 5_000)) ∷
     -- "Mean 3,999 passes, 4,000 is 4."
     (Gives (pos 3_999) (pos 3_999) (pos 3_999) (pos 3_999) (pos 3_999) ×
-    (temperatureNumber (pos 4_000) (pos 0) (pos 0) (pos 0) ≡ 4) ×
-    (temperatureValue (pos 4_000) (pos 0) (pos 0) (pos 0) ≡ pos 0)) ∷
+    Refused (pos 4_000) (pos 0) (pos 0) (pos 0) 0 ×
+    Refused (pos 0) (pos 4_000) (pos 0) (pos 0) 1 ×
+    Refused (pos 0) (pos 0) (pos 4_000) (pos 0) 2 ×
+    Refused (pos 0) (pos 0) (pos 0) (pos 4_000) 3) ∷
     -- "r equal to one: the power is 2^30, low and high." So it is where N = M, whatever they are and whatever the exponent.
     (((c : ℕ) → powerLow one c ≡ 2 ^ 30) ×
     ((c : ℕ) → powerHigh one c ≡ 2 ^ 30) ×
@@ -89,10 +108,10 @@ table =
     (Split 100 (equal 3) (33 ∷ 34 ∷ 33 ∷ []) ×
     Split 1 (equal 2) (1 ∷ 0 ∷ []) ×
     Split 0 (equal 2) (0 ∷ 0 ∷ [])) ∷
-    -- "958,000 Wh with Z = 379,356,309: 25,253 (document 000)."
-    ((sumOf (sixty 379_356_309) ≡ 379_356_309) ×
-    (customerRows 958_000 (sixty 379_356_309) ≡ 0) ×
-    (customerValue 958_000 (sixty 379_356_309) ≡ 25_253)) ∷
+    -- "958,000 Wh with Z = 379,356,309: 25,253 (document 000)." So it is for all weights with that sum, and there are such that pass.
+    (((w : List ℕ) → sumOf w ≡ 379_356_309 → customerValue 958_000 w ≡ 25_253) ×
+    (sumOf (sixty 379_356_309) ≡ 379_356_309) ×
+    (customerRows 958_000 (sixty 379_356_309) ≡ 0)) ∷
     -- "Value 25,253, weight 1,000,000: 2,525 Wh. Value 1,000,000, weight 5: 1 Wh."
     ((amountRows 25_253 1_000_000 ≡ 0) ×
     (dailyAmount 25_253 1_000_000 ≡ 2_525) ×

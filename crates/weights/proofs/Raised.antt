@@ -12,7 +12,7 @@ use mir.Facts.{toZ-ofZ}
 use Rattle.profile.specs.Limits.{inRange, coldest}
 use Rattle.profile.specs.Weight.{floorℤ}
 use Rattle.profile.proofs.Integer.{above, below, less-sum, less-product}
-use Rattle.weights.specs.Temperature.{temperatureOf}
+use Rattle.weights.specs.Temperature.{temperatureOf, TemperatureInRange}
 
 -- r is z raised by 5,000
 pub record Raised (z : ℤ) (r : ℕ) : Type 0 where
@@ -79,8 +79,7 @@ of-four a b c d {A} {B} {C} {D} ra rb rc rd =
     ))
 
 -- a temperature of means in range is in range again
-pub temperature-in-range : (a b c d : ℤ) → inRange a ≡ true → inRange b ≡ true → inRange c ≡ true → inRange d ≡ true
-    → inRange (temperatureOf a b c d) ≡ true
+pub temperature-in-range : TemperatureInRange
 temperature-in-range a b c d ha hb hc hd =
     let ra = raised a ha in
     let rb = raised b hb in

@@ -10,7 +10,7 @@ use lib.ListN.{length, getD, length-append, List·getD-append}
 use lib.Seq.{getD-at}
 use Rattle.weights.specs.Weights.{listOf, dayWeight, weightsOf}
 
-listOf-length : (f : ℕ → ℕ) (n : ℕ) → length (listOf f n) ≡ n
+pub listOf-length : (f : ℕ → ℕ) (n : ℕ) → length (listOf f n) ≡ n
 unfolding listOf
 listOf-length f zero = refl
 listOf-length f (suc n) = length-append (listOf f n) (f n ∷ []) ∙ add-one _ ∙ ap suc (listOf-length f n)
@@ -19,7 +19,7 @@ pub weights-length : (profile weekday : ℕ) (means : List ℤ) → length (weig
 unfolding weightsOf
 weights-length profile weekday means = listOf-length _ _
 
-listOf-at : (f : ℕ → ℕ) (n i : ℕ) → i < n → getD (listOf f n) i 0 ≡ f i
+pub listOf-at : (f : ℕ → ℕ) (n i : ℕ) → i < n → getD (listOf f n) i 0 ≡ f i
 unfolding listOf
 listOf-at f zero i h = absurd (omega arith)
 listOf-at f (suc n) i h = go (listOf-at f n i) (decLt i n)

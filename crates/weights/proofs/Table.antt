@@ -9,9 +9,10 @@ use borrow.Author.Tests.{lt-ltb, le-ltb, le-leb, lt-leb, eq-eqb, ne-eqb}
 use lib.IntN.{ℤ}
 use lib.ListN.{length, getD}
 use Rattle.profile.specs.Limits.{profileCount, spanMost, weightLeast, weightMost}
-use Rattle.profile.proofs.Bounds.{weight-range}
+use Rattle.profile.proofs.Bounds.{whole-table}
 use Rattle.weights.specs.Means.{firstOut}
-use Rattle.weights.specs.Weights.{weightsOf, unfit, zeros, Ready, WeightsMet}
+use Rattle.profile.specs.Rows.{zeros}
+use Rattle.weights.specs.Weights.{dayTemperature, weightsOf, unfit, Ready, WeightsMet}
 use Rattle.weights.specs.declared.WeightsAnswer.the-variants.{Done, Unfit, NoProfile, NoWeekday, OutOfRange}
 use Rattle.weights.proofs.Raised.{temperature-in-range}
 use Rattle.weights.proofs.Series.{all-in}
@@ -22,9 +23,9 @@ pub weights-bounded : (p w : ℕ) (means : List ℤ) → Ready p w means → (k 
     → (weightLeast ≤ getD (weightsOf p w means) k 0) × (getD (weightsOf p w means) k 0 ≤ weightMost)
 weights-bounded p w means r k h =
     let fine = all-in means (r .measured) in
-    rw (weights-at p w means k h)
-    (weight-range p ((w + k) % 7) _ (r .profiled) (omega arith)
-    (temperature-in-range _ _ _ _ (fine (k + 3) (omega arith)) (fine (k + 2) (omega arith)) (fine (k + 1) (omega arith)) (fine k (omega arith))))
+    let mild = temperature-in-range _ _ _ _ (fine (k + 3) (omega arith)) (fine (k + 2) (omega arith)) (fine (k + 1) (omega arith)) (fine k (omega arith)) in
+    let known = whole-table p ((w + k) % 7) (dayTemperature means k) (r .profiled) (omega arith) mild in
+    rw (weights-at p w means k h) (known .1, known .2)
 
 -- the lengths of a call that row 3 does not decline
 pub record Fit (means : List ℤ) (before : List ℕ) : Type 0 where

@@ -9,17 +9,26 @@ use denote.Ref.{RefT}
 use lib.Dec.{leb}
 use lib.IntN.{ℤ}
 use lib.ListN.{length, take}
-use Rattle.profile.specs.Limits.{spanMost}
+use Rattle.profile.specs.Limits.{isSpan}
 use Rattle.profile.specs.Rows.{row}
 use Rattle.weights.specs.Means.{someOut}
-
--- n is a number of days that a span can have
-abbrev pub spans : ℕ → Bool
-spans n = leb 1 n && leb n spanMost
 
 -- the series has that many means at its start, all in range
 abbrev pub serves : List ℤ → ℕ → Bool
 serves series count = leb count (length series) && not (someOut (take count series))
+
+-- the series that the chooser returns means of
+pub data Series : Type 0 where
+  Measured : Series
+  Forecast : Series
+  Neither : Series
+
+abbrev pub choice : List ℤ → List ℤ → ℕ → Series
+choice measured forecast n =
+    row (not (isSpan n)) Neither
+    (row (serves measured (n + 3)) Measured
+    (row (serves forecast (n + 3)) Forecast
+    Neither))
 
 -- a part of a lent slice: where it starts, and its means
 pub record Part : Type 0 where
@@ -29,12 +38,13 @@ pub record Part : Type 0 where
 abbrev pub firstOf : ℕ → RefT (List ℤ) → Part
 firstOf count series = record { start = series .ptr; means = take count (series .now) }
 
+abbrev pub partOf : Series → RefT (List ℤ) → RefT (List ℤ) → ℕ → Part
+partOf Measured measured forecast count = firstOf count measured
+partOf Forecast measured forecast count = firstOf count forecast
+partOf Neither measured forecast count = firstOf 0 measured
+
 abbrev pub chosen : RefT (List ℤ) → RefT (List ℤ) → ℕ → Part
-chosen measured forecast n =
-    row (not (spans n)) (firstOf 0 measured)
-    (row (serves (measured .now) (n + 3)) (firstOf (n + 3) measured)
-    (row (serves (forecast .now) (n + 3)) (firstOf (n + 3) forecast)
-    (firstOf 0 measured)))
+chosen measured forecast n = partOf (choice (measured .now) (forecast .now) n) measured forecast (n + 3)
 
 pub record ChooseMet (measured forecast : RefT (List ℤ)) (n : ℕ) (answer : RefT (List ℤ)) (measuredAfter forecastAfter : List ℤ) : Type 0 where
   pub start-is : answer .ptr ≡ chosen measured forecast n .start

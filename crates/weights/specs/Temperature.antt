@@ -1,9 +1,11 @@
 -- `Temperature of a day`: "With today's mean a and those of one, two and three days before b, c, d, the allocation temperature is
 -- nearest((8a+4b+2c+d)/15). No half can occur." The table: the index of 4 is "0 to 3 for four means in the order a, b, c, d", "single values refused are zero".
 use mathlib.Core.Path.{_≡_}
+use mathlib.Core.Bool.{true}
 use mathlib.Core.List.{List, [], _∷_}
 use Prim.Native.Nat.{ℕ, _*_}
 use lib.IntN.{ℤ, pos, _+ℤ_, _*ℤ_}
+use Rattle.profile.specs.Limits.{inRange}
 use Rattle.profile.specs.Weight.{floorℤ}
 use Rattle.profile.specs.Rows.{row}
 use Rattle.weights.specs.Means.{firstOut, someOut}
@@ -14,12 +16,25 @@ use Rattle.weights.specs.declared.TemperatureAnswer.the-variants.{Temper
 abbrev pub nearestℤ : ℤ → ℕ → ℤ
 nearestℤ x d = floorℤ (pos 2 *ℤ x +ℤ pos d) (2 * d)
 
-unfoldable pub temperatureOf : ℤ → ℤ → ℤ → ℤ → ℤ
-temperatureOf a b c d = nearestℤ (pos 8 *ℤ a +ℤ pos 4 *ℤ b +ℤ pos 2 *ℤ c +ℤ d) 15
+abbrev pub weighted : ℤ → ℤ → ℤ → ℤ → ℤ
+weighted a b c d = pos 8 *ℤ a +ℤ pos 4 *ℤ b +ℤ pos 2 *ℤ c +ℤ d
 
--- "No half can occur": no whole number over 15 is an odd number over 2 (proofs/Half, `no-half`)
+-- 8 + 4 + 2 + 1
+abbrev pub fifteen : ℕ
+fifteen = 15
+
+-- the allocation temperature: a mean of four days, geometric weights
+unfoldable pub temperatureOf : ℤ → ℤ → ℤ → ℤ → ℤ
+temperatureOf a b c d = nearestℤ (weighted a b c d) fifteen
+
+-- "No half can occur": no such sum over 15 is an odd number over 2 (proofs/Half, `no-half`)
 abbrev pub NoHalf : Type 0
-NoHalf = (x q : ℤ) → pos 2 *ℤ x ≡ (pos 2 *ℤ q +ℤ pos 1) *ℤ pos 15 → ⊥
+NoHalf = (a b c d q : ℤ) → pos 2 *ℤ weighted a b c d ≡ (pos 2 *ℤ q +ℤ pos 1) *ℤ pos fifteen → ⊥
+
+-- the temperature of means in range is in range, so that every day of a span has a weight (proofs/Raised, `temperature-in-range`)
+abbrev pub TemperatureInRange : Type 0
+TemperatureInRange =
+    (a b c d : ℤ) → inRange a ≡ true → inRange b ≡ true → inRange c ≡ true → inRange d ≡ true → inRange (temperatureOf a b c d) ≡ true
 
 -- an answer's number in the table (0: done), its index, and its temperature
 abbrev pub number : TemperatureAnswer → ℕ

@@ -6,13 +6,12 @@ use mathlib.Core.List.{List, [], _∷_, _++_}
 use Prim.Native.Nat.{ℕ, zero, suc, _+_, _-_, _%_, _≤_, _<_}
 use lib.Dec.{leb, ltb, eqb}
 use lib.IntN.{ℤ, pos}
-use lib.ListN.{length, getD, replicate}
-use Rattle.profile.specs.Limits.{profileCount, spanMost, weightLeast, weightMost}
+use lib.ListN.{length, getD}
+use Rattle.profile.specs.Limits.{profileCount, spanMost, isSpan, weightLeast, weightMost}
 use Rattle.profile.specs.Weight.{weightOf}
-use Rattle.profile.specs.Rows.{row}
+use Rattle.profile.specs.Rows.{row, zeros}
 use Rattle.weights.specs.Means.{firstOut, someOut}
 use Rattle.weights.specs.Temperature.{temperatureOf}
-use Rattle.weights.specs.Choose.{spans}
 use Rattle.weights.specs.declared.WeightsAnswer.{WeightsAnswer}
 use Rattle.weights.specs.declared.WeightsAnswer.the-variants.{Done, Unfit, NoProfile, NoWeekday, OutOfRange}
 
@@ -37,10 +36,7 @@ weightsOf profile weekday means = listOf (dayWeight profile weekday means) (leng
 
 -- n is outside 1 to 1,096, or the output is not n long
 abbrev pub unfit : List ℤ → List ℕ → Bool
-unfit means out = not (spans (length means - 3)) || not (eqb (length out) (length means - 3))
-
-abbrev pub zeros : List ℕ → List ℕ
-zeros out = replicate (length out) 0
+unfit means out = not (isSpan (length means - 3)) || not (eqb (length out) (length means - 3))
 
 -- what the table lays down for a call: the number, the index, and what the output then holds
 pub record Outcome : Type 0 where

@@ -6,7 +6,8 @@ ghost use lib.ListN.{length};
 ghost use Rattle.profile.specs.Limits.{inRange, profileCount};
 ghost use Rattle.profile.specs.Weight.{weightOf};
 ghost use Rattle.weights.specs.Means.{someOut};
-ghost use Rattle.weights.specs.Weights.{dayTemperature, weightsOf, zeros, Ready};
+ghost use Rattle.profile.specs.Rows.{zeros};
+ghost use Rattle.weights.specs.Weights.{dayTemperature, weightsOf, Ready};
 use profile::WeightAnswer;
 
 pub(crate) fn clear(out: &mut [u32])

@@ -208,7 +208,7 @@ fn of(answer: Answer, values: &[u64], slices: Vec<Vec<u64>>) -> Outcome {
     Outcome { answer, values: values.to_vec(), slices }
 }
 
-/// Which series a chosen part is of (0 measured, 1 forecast, 2 neither), where it begins, its length.
+/// Which series a chosen part begins with (0 measured, 1 forecast, 2 neither), and its length.
 fn chosen(part: &[Mean], measured: &[Mean], forecast: &[Mean]) -> [u64; 2] {
     let series = [measured, forecast].iter().position(|series| series.as_ptr() == part.as_ptr());
     [series.unwrap_or(2) as u64, part.len() as u64]

@@ -2,6 +2,7 @@
 
 use crate::checks::{Account, File, Input, Outputs};
 use crate::random::Random;
+use model::console::MOST_BYTES;
 use model::history::Call;
 use model::{Boundary, Mean, ProfileNumber, Weekday, LARGEST_BOUNDARY};
 
@@ -480,6 +481,12 @@ pub fn script(random: &mut Random) -> Vec<u8> {
     }
     if random.once_in(10) {
         bytes.truncate(random.length(0, bytes.len()));
+    }
+    if random.once_in(12) {
+        // Empty lines before it, so that the limit falls within it or at its end.
+        let within = if random.once_in(2) { bytes.len() } else { random.length(0, bytes.len()) };
+        let before = (MOST_BYTES + random.length(0, 2)).saturating_sub(within);
+        bytes.splice(..0, vec![b'\n'; before]);
     }
     bytes
 }

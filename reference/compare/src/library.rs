@@ -29,9 +29,6 @@ pub trait Library {
     fn daily_amount(&self, value: u64, weight: u32) -> (Answer, u64);
     fn read(&self, file: &[u8], weights: &mut [u32], marks: &mut [u8], counts: &mut [u64]) -> (Answer, usize);
     fn statement_text(&self, from: &[u16], to: &[u16], wh: &[u64], parts: usize, out: &mut [u8]) -> usize {
-        if statement::impossible(from, to, wh, parts) {
-            return 0;
-        }
         statement::lay_out(&statement::text(from, to, wh, parts), out)
     }
     fn refusal_text(&self, number: u8, place: usize, out: &mut [u8]) -> usize {

@@ -5,7 +5,7 @@ pub struct Random(u64);
 impl Random {
     /// The source for input number `index` of a run, so that one input can be made again alone.
     pub fn new(seed: u64, index: u64) -> Random {
-        let mut random = Random((seed ^ index.wrapping_mul(0x9e37_79b9_7f4a_7c15)) | 1);
+        let mut random = Random((seed ^ index.wrapping_mul(0x9e37_79b9_7f4a_7c15)).max(1));
         for _ in 0..8 {
             random.next();
         }

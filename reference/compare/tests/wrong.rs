@@ -5,6 +5,7 @@ use compare::demand3;
 use compare::library::{compared, Library, Model};
 use compare::programs;
 use compare::run::{compare, input, one, Tally};
+use model::statement::lay_out;
 use model::{refused, Answer, Boundary, Mean, ProfileNumber, Weekday, DONE};
 use std::cell::RefCell;
 
@@ -243,6 +244,7 @@ impl Library for Wrong {
         match self.0 {
             "a byte past the text" if length < out.len() => out[length] = 0,
             "only what fits is counted" => return length.min(out.len()),
+            "no part has a text" if parts == 0 => return lay_out("parts 0\nsum 0\n", out),
             _ => {}
         }
         length
@@ -281,7 +283,7 @@ const IN_LISTS: [&str; 18] = [
     "first statement repeated",
 ];
 
-const ELSEWHERE: [&str; 26] = [
+const ELSEWHERE: [&str; 27] = [
     "open leaves the counts",
     "boundary cut to 16 bits",
     "oldest mean weighted most",
@@ -306,6 +308,7 @@ const ELSEWHERE: [&str; 26] = [
     "from and to exchanged",
     "a byte past the text",
     "only what fits is counted",
+    "no part has a text",
     "number and place exchanged",
     "refusal without its end",
 ];

@@ -114,7 +114,7 @@ impl Reader<'_> {
     }
 }
 
-/// Reads a case file into slices of lengths 1,096, 1,097 and 1,097 and returns n; all zero after a fault.
+/// Reads a case file into slices of lengths 1,096, 1,097 and 1,097 and returns n; all zero after a fault, untouched where a length is unfit.
 pub fn read(file: &[u8], weights: &mut [u32], marks: &mut [u8], counts: &mut [u64]) -> (Answer, usize) {
     if weights.len() != WEIGHTS || marks.len() != MARKS || counts.len() != COUNTS {
         return (refused(3), 0);

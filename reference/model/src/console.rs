@@ -109,17 +109,22 @@ impl Account {
     }
 }
 
-/// What the console prints for a script; of one with more than 65,536 bytes only the lines that end within those are run.
-pub fn console(script: &[u8]) -> String {
-    let script = if script.len() > MOST_BYTES {
-        let feed = script[..MOST_BYTES].iter().rposition(|byte| *byte == b'\n');
-        &script[..feed.map_or(0, |feed| feed + 1)]
-    } else {
-        script
-    };
+/// What is run of an input: all of it, or, if it is longer than a script, the lines that end within the limit.
+fn script(input: &[u8]) -> &[u8] {
+    if input.len() <= MOST_BYTES {
+        return input;
+    }
+    match input[..MOST_BYTES].iter().rposition(|byte| *byte == b'\n') {
+        Some(last) => &input[..=last],
+        None => &[],
+    }
+}
+
+/// What the console prints for what stands on its standard input.
+pub fn console(input: &[u8]) -> String {
     let mut account = Account::default();
     let mut out = String::new();
-    for (i, line) in script.split(|byte| *byte == b'\n').enumerate() {
+    for (i, line) in script(input).split(|byte| *byte == b'\n').enumerate() {
         if line.is_empty() || line[0] == b'#' {
             continue;
         }

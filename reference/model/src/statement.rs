@@ -1,6 +1,6 @@
 //! Section "Account and its calls", the statement: parts between marked boundaries, written into lent slices.
 
-use crate::account::{lengths_fit, readings, sound, READING};
+use crate::account::{lengths_fit, readings, sound, MOST_ENERGY, READING};
 use crate::profile::Profile;
 use crate::{nearest, refused, Answer, DONE};
 
@@ -60,8 +60,11 @@ pub fn statement(
     (DONE, parts.len())
 }
 
-/// The statement as the programs print it: the number of parts, a line for each, their sum.
+/// The statement as the programs print it: the number of parts, a line for each, their sum; empty for what none can be.
 pub fn text(from: &[u16], to: &[u16], wh: &[u64], parts: usize) -> String {
+    if impossible(from, to, wh, parts) {
+        return String::new();
+    }
     let mut text = format!("parts {parts}\n");
     for i in 0..parts {
         text += &format!("{} {} {}\n", from[i], to[i], wh[i]);
@@ -81,8 +84,8 @@ pub fn lay_out(text: &str, out: &mut [u8]) -> usize {
     text.len()
 }
 
-/// No statement has so many parts in these outputs, or none, or such a part.
+/// What no statement can be: no part, too many for these outputs or for any span, or a part that is too great.
 pub fn impossible(from: &[u16], to: &[u16], wh: &[u64], parts: usize) -> bool {
     let longest = from.len().min(to.len()).min(wh.len()).min(Profile::LONGEST);
-    parts == 0 || parts > longest || wh[..parts].iter().any(|part| *part > 2_000_000_000)
+    parts == 0 || parts > longest || wh[..parts].iter().any(|part| *part > MOST_ENERGY)
 }

@@ -146,11 +146,67 @@ fn numbers_that_just_fit() {
     assert_eq!(run(script).join(","), expected);
 }
 
+/// The answers to these last lines of a script of that many bytes, after an account of one day and its first reading.
+fn at_the_end(bytes: usize, last: &str) -> Vec<String> {
+    let first = "weights 1\nreading 0 0\n";
+    let between = "#".repeat(bytes - first.len() - 1 - last.len());
+    let script = format!("{first}{between}\n{last}");
+    assert_eq!(script.len(), bytes);
+    let answers = run(&script);
+    assert_eq!(answers[..2], ["done", "done"]);
+    answers[2..].to_vec()
+}
+
+const STATEMENT: [&str; 4] = ["done", "parts 1", "0 1 12", "sum 12"];
+const NOTHING: [&str; 0] = [];
+
 #[test]
-fn no_line_is_cut_by_the_most_bytes() {
-    let script = "statement\n".repeat(6_553) + "statement\nstatement\n";
-    assert_eq!(run(&script).len(), 6_553);
-    let lines = run(&script[..65_536]);
-    assert_eq!(lines.len(), 6_554);
-    assert_eq!(lines[6_553], "unknown 6554");
+fn within_the_most_bytes_every_line_is_run() {
+    for bytes in [65_535, 65_536] {
+        assert_eq!(at_the_end(bytes, "reading 1 12\nstatement\n"), STATEMENT);
+        assert_eq!(at_the_end(bytes, "reading 1 12\nstatement"), STATEMENT);
+        assert_eq!(at_the_end(bytes, "statemen"), ["unknown 4"]);
+    }
+}
+
+#[test]
+fn a_line_feed_at_the_limit() {
+    // The last byte within the limit is a line feed: its line is run, and nothing of what follows.
+    for rest in ["\n", "x", "#", "statement", "x\nstatement\n"] {
+        let last = format!("reading 1 12\nstatement\n{rest}");
+        assert_eq!(at_the_end(65_536 + rest.len(), &last), STATEMENT, "{rest:?}");
+    }
+    // The first byte past the limit is a line feed: its line does not end within the limit.
+    assert_eq!(at_the_end(65_537, "reading 1 12\nstatement\n"), ["done"]);
+    assert_eq!(at_the_end(65_537, "x\n"), NOTHING);
+}
+
+#[test]
+fn a_line_that_the_limit_cuts() {
+    assert_eq!(at_the_end(65_538, "reading 1 1234"), NOTHING);
+    assert_eq!(at_the_end(65_539, "reading 1 1234\n"), NOTHING);
+    assert_eq!(at_the_end(65_549, "reading 1 1234\nstatement\n"), NOTHING);
+    assert_eq!(at_the_end(65_537, "statement1"), NOTHING);
+    assert_eq!(at_the_end(65_537, "reading 1 12\nunknown"), ["done"]);
+    let script = "statement\n".repeat(20_000);
+    assert_eq!(run(&script), vec!["refused 3 0"; 6_553]);
+}
+
+#[test]
+fn no_line_feed_within_the_limit() {
+    let weights = |bytes: usize| format!("weights {}1", "0".repeat(bytes - 9));
+    assert_eq!(run(&weights(65_536)), ["done"]);
+    for bytes in [65_537, 65_538, 200_000] {
+        assert_eq!(run(&weights(bytes)), NOTHING);
+    }
+    assert_eq!(run(&(weights(65_536) + "\n")), NOTHING);
+    assert_eq!(run(&(weights(65_535) + "\n")), ["done"]);
+    assert_eq!(run(&(weights(65_536) + "\nstatement\n")), NOTHING);
+    assert_eq!(run(""), NOTHING);
+}
+
+#[test]
+fn empty_lines_up_to_the_limit() {
+    assert_eq!(run(&("\n".repeat(65_535) + "x")), ["unknown 65536"]);
+    assert_eq!(run(&("\n".repeat(65_536) + "x")), NOTHING);
 }

@@ -4,7 +4,7 @@ use mathlib.Core.Path.{_≡_, refl, sym, _∙_}
 use mathlib.Core.Bool.{true, false}
 use borrow.Author.Tests.{not-true, not-false}
 use Rattle.account.specs.Account.{Account, account, unfit, goodWeights}
-use Rattle.account.specs.Table.{accountRows}
+use Rattle.account.specs.Refusals.{accountRows}
 use Rattle.account.specs.Calls.{CheckMet}
 use Rattle.account.specs.Slices.{goodBoundaries}
 use Rattle.account.proofs.Sound.{fit}

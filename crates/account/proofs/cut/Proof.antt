@@ -6,7 +6,7 @@ use borrow.Author.Needs.{needs}
 use lib.Dec.{lit<}
 use lib.ListN.{set, getD}
 use Rattle.account.specs.Account.{Account, account, marksCut}
-use Rattle.account.specs.Table.{cutNumber}
+use Rattle.account.specs.Refusals.{cutNumber}
 use Rattle.account.proofs.Stores.{Accepted, accepted, cut-more, leaves-done, leaves-refused}
 use Rattle.account.proofs.cut.Statement.{statement}
 use Rattle.account.proofs.cut.Tie as tie

@@ -7,7 +7,7 @@ use mathlib.Core.Bool.{true, false}
 use borrow.Author.Needs.{needs}
 use borrow.Author.Tests.{not-true, not-false}
 use Rattle.account.specs.Account.{Account, account, unfit, goodWeights}
-use Rattle.account.specs.Table.{openNumber}
+use Rattle.account.specs.Refusals.{openNumber}
 use Rattle.account.proofs.Stores.{leaves-done, leaves-refused}
 use Rattle.account.proofs.open.Statement.{statement}
 use Rattle.account.proofs.open.Tie as tie

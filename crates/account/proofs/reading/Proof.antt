@@ -6,7 +6,7 @@ use borrow.Author.Needs.{needs}
 use lib.Dec.{lit<}
 use lib.ListN.{set, getD}
 use Rattle.account.specs.Account.{Account, account, marksReading}
-use Rattle.account.specs.Table.{readingNumber}
+use Rattle.account.specs.Refusals.{readingNumber}
 use Rattle.account.proofs.Stores.{Accepted, accepted, reading-more, leaves-done, leaves-refused}
 use Rattle.account.proofs.reading.Statement.{statement}
 use Rattle.account.proofs.reading.Tie as tie

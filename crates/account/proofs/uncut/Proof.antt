@@ -8,7 +8,7 @@ use borrow.Author.Tests.{not-false}
 use lib.Dec.{lit<}
 use lib.ListN.{set, getD}
 use Rattle.account.specs.Account.{Account, account, marksCut}
-use Rattle.account.specs.Table.{uncutNumber}
+use Rattle.account.specs.Refusals.{uncutNumber}
 use Rattle.account.proofs.Stores.{Accepted, accepted, cut-least, cut-less, leaves-done, leaves-refused}
 use Rattle.account.proofs.uncut.Statement.{statement}
 use Rattle.account.proofs.uncut.Tie as tie

@@ -8,7 +8,7 @@ use borrow.Author.Tests.{not-false}
 use lib.Dec.{lit<}
 use lib.ListN.{set, getD}
 use Rattle.account.specs.Account.{Account, account, marksReading}
-use Rattle.account.specs.Table.{withdrawNumber}
+use Rattle.account.specs.Refusals.{withdrawNumber}
 use Rattle.account.proofs.Stores.{Accepted, accepted, reading-least, reading-less, leaves-done, leaves-refused}
 use Rattle.account.proofs.withdraw.Statement.{statement}
 use Rattle.account.proofs.withdraw.Tie as tie

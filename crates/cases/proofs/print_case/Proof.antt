@@ -1,8 +1,9 @@
--- `cases::print_case` does nothing undefined: the text fits its buffer. Assumes nothing.
-use mathlib.Core.Path.{sym}
+-- `cases::print_case` prints the text of the bytes that it read: the buffers have the lengths that the reader asks, and no text fills the last. Assumes nothing.
+use mathlib.Core.Path.{refl, sym}
 use native.Mathlib.Omega.{arith}
 use lib.Seq.{length-take-le}
 use borrow.Author.Needs.{needs}
+use Rattle.report.proofs.Printed.{prints-file}
 use Rattle.cases.proofs.print_case.Statement.{statement}
 use Rattle.cases.proofs.print_case.Tie as tie
 
@@ -33,14 +34,20 @@ slice-aggregate-case-text-5 c = search needs
 case-text-requires : tie.Need-case-text-requires
 case-text-requires c κs = search needs
 
+array-share-prefix-file-2 : tie.Need-array-share-prefix-file-2
+array-share-prefix-file-2 c = search needs
+
+slice-aggregate-print : tie.Need-slice-aggregate-print
+slice-aggregate-print c = search needs
+
 array-share-prefix-text : tie.Need-array-share-prefix-text
 array-share-prefix-text c = search needs
 
-slice-aggregate-write-all : tie.Need-slice-aggregate-write-all
-slice-aggregate-write-all c = sym (length-take-le _ _ (omega arith))
+slice-aggregate-print-2 : tie.Need-slice-aggregate-print-2
+slice-aggregate-print-2 c = sym (length-take-le _ _ (omega arith))
 
-write-all-requires : tie.Need-write-all-requires
-write-all-requires c κs = search needs
+print-requires : tie.Need-print-requires
+print-requires c κs = prints-file _ _ _ _ _ _ _ (c .before .before .before .before .before .before .case-text .ensures .0) refl (omega arith)
 
 returns : tie.Need-returns
 returns c = search needs
@@ -58,7 +65,9 @@ print-case-spec =
     slice-aggregate-case-text-4
     slice-aggregate-case-text-5
     case-text-requires
+    array-share-prefix-file-2
+    slice-aggregate-print
     array-share-prefix-text
-    slice-aggregate-write-all
-    write-all-requires
+    slice-aggregate-print-2
+    print-requires
     returns)

@@ -1,15 +1,14 @@
 -- `customer::total` meets its contract. The loop's invariant: the sum so far and the sum of the rest are the sum of all, and the sum so
 -- far is at most 2^32 for each weight passed. Assumes nothing.
 use Prim.Native.Nat.{ℕ, _+_, _-_, _*_, _≤_, _<_, _^_}
-use mathlib.Core.Path.{_≡_, _∙_, sym, ap}
-use mathlib.Core.List.{List, [], _∷_}
+use mathlib.Core.Path.{_≡_}
+use mathlib.Core.List.{List}
 use native.Mathlib.Omega.{arith}
 use borrow.Author.Needs.{needs}
-use native.Mathlib.Nat.{add-zero}
 use native.Mathlib.Numerals.{add-one}
 use lib.ListN.{length, getD, drop, drop-of-length-le}
 use lib.Seq.{drop-cons}
-use Rattle.profile.specs.Table.{sumOf}
+use Rattle.profile.specs.Coefficients.{sumOf}
 use Rattle.customer.proofs.total.Statement.{statement}
 use Rattle.customer.proofs.total.Tie as tie
 

@@ -5,13 +5,14 @@ use mathlib.Core.Path.{_≡_, refl, sym, _∙_}
 use mathlib.Core.Bool.{Bool, not}
 use native.Mathlib.Omega.{arith}
 use borrow.Author.Needs.{needs}
-use Rattle.weights.specs.Choose.{spans, serves}
+use Rattle.profile.specs.Limits.{isSpan}
+use Rattle.weights.specs.Choose.{serves}
 use Rattle.ffi.proofs.Series.{length-alone, measured-taken, forecast-taken, neither-taken}
 use Rattle.ffi.proofs.arvadush_choose.Statement.{statement}
 use Rattle.ffi.proofs.arvadush_choose.Tie as tie
 
 abbrev outside : tie.Start → Bool
-outside c = not (spans (c .args .n))
+outside c = not (isSpan (c .args .n))
 
 abbrev measured : tie.Start → Bool
 measured c = serves (c .args .measured .now) (c .args .n + 3)

@@ -5,12 +5,12 @@ use borrow.Author.Needs.{needs}
 use Rattle.ffi.specs.declared.Outcome.{Outcome}
 use Rattle.customer.specs.declared.CustomerAnswer.{CustomerAnswer}
 use Rattle.customer.specs.Customer as customer
-use Rattle.ffi.specs.Calls.{told, AmountMet}
+use Rattle.ffi.specs.Calls.{told, AmountReturned}
 use Rattle.ffi.proofs.arvadush_daily_amount.Statement.{statement}
 use Rattle.ffi.proofs.arvadush_daily_amount.Tie as tie
 
 met-told : (v weight : ℕ) (answer : CustomerAnswer) (r : Outcome) → r ≡ told (customer.number answer) 0 (customer.value answer) →
-    customer.AmountMet v weight answer → AmountMet v weight r
+    customer.AmountMet v weight answer → AmountReturned v weight r
 met-told v weight answer r e met = rw e (record { answers = met .answers; place = refl; values = met .values })
 
 daily-amount-requires : tie.Need-daily-amount-requires

@@ -1,5 +1,4 @@
 -- `ffi::arvadush_statement` meets its contract, which is that of `statement::statement` at its answer's numbers. Assumes nothing.
-use Prim.Native.Nat.{ℕ}
 use mathlib.Core.Path.{_≡_, refl}
 use borrow.Author.Needs.{needs}
 use Rattle.ffi.specs.declared.Outcome.{Outcome}
@@ -7,13 +6,13 @@ use Rattle.account.specs.Account.{Account}
 use Rattle.statement.specs.Parts.{Outputs}
 use Rattle.statement.specs.declared.StatementAnswer.{StatementAnswer}
 use Rattle.statement.specs.Call as call
-use Rattle.ffi.specs.Calls.{told, StatementMet}
+use Rattle.ffi.specs.Calls.{told, StatementReturned}
 use Rattle.ffi.proofs.arvadush_statement.Statement.{statement}
 use Rattle.ffi.proofs.arvadush_statement.Tie as tie
 
 met-told : (before : Account) (lent : Outputs) (answer : StatementAnswer) (r : Outcome) (after : Account) (out : Outputs) →
     r ≡ told (call.number answer) 0 (call.partCount answer) → call.StatementMet before lent answer after out →
-    StatementMet before lent r after out
+    StatementReturned before lent r after out
 met-told before lent answer r after out e met =
     rw e (record { answers = met .answers; place = refl; counts = met .counts; stays = met .stays; writes = met .writes })
 

@@ -7,13 +7,13 @@ use borrow.Author.Needs.{needs}
 use Rattle.ffi.specs.declared.Outcome.{Outcome}
 use Rattle.weights.specs.declared.WeightsAnswer.{WeightsAnswer}
 use Rattle.weights.specs.Weights as span
-use Rattle.ffi.specs.Calls.{told, WeightsMet}
+use Rattle.ffi.specs.Calls.{told, WeightsReturned}
 use Rattle.ffi.proofs.arvadush_weights.Statement.{statement}
 use Rattle.ffi.proofs.arvadush_weights.Tie as tie
 
 met-told : (profile weekday : ℕ) (means : List ℤ) (before : List ℕ) (answer : WeightsAnswer) (r : Outcome) (after : List ℕ) (kept : List ℤ) →
     r ≡ told (span.number answer) (span.place answer) 0 → span.WeightsMet profile weekday means before answer after kept →
-    WeightsMet profile weekday means before r after kept
+    WeightsReturned profile weekday means before r after kept
 met-told profile weekday means before answer r after kept e met =
     rw e
     (record {

@@ -1,10 +1,10 @@
 -- `layout::by_way_of` meets its contract. Assumes nothing.
-use mathlib.Core.Path.{_≡_, sym, _∙_}
+use mathlib.Core.Path.{sym, _∙_}
 use native.Mathlib.Omega.{arith}
 use lib.ListN.{length, take, drop}
 use lib.Seq.{length-take-le, take-at}
-use Rattle.account.specs.Account.{Account, account}
-use Rattle.statement.specs.Parts.{Outputs, outputs}
+use Rattle.account.specs.Account.{account}
+use Rattle.statement.specs.Parts.{outputs}
 use Rattle.layout.proofs.Texts.{front-long, answered-says}
 use borrow.Author.Needs.{needs}
 use Rattle.layout.proofs.by_way_of.Statement.{statement}

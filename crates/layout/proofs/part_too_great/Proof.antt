@@ -1,14 +1,14 @@
 -- `layout::part_too_great` meets its contract. The loop's invariant: no part passed is too great. Assumes nothing.
 use Prim.Native.Nat.{_-_, _≤_}
 use mathlib.Core.Path.{_≡_, sym, _∙_}
-use mathlib.Core.Bool.{true, false}
+use mathlib.Core.Bool.{false}
 use native.Mathlib.Omega.{arith}
 use borrow.Author.Tests.{lt-ltb, le-ltb}
 use lib.Dec.{ltb}
-use lib.ListN.{length, getD}
-use Rattle.account.specs.Boundaries.{some}
+use lib.ListN.{getD}
+use Rattle.account.specs.Below.{some}
 use Rattle.account.specs.Account.{energyMost}
-use Rattle.account.proofs.Boundaries.{some-zero, some-at}
+use Rattle.account.proofs.Below.{some-zero, some-at}
 use Rattle.layout.proofs.Sums.{some-more}
 use Rattle.layout.proofs.part_too_great.Statement.{statement}
 use Rattle.layout.proofs.part_too_great.Tie as tie

@@ -6,7 +6,7 @@ use borrow.Author.Tests.{lt-ltb, le-ltb, eq-eqb, ne-eqb}
 use lib.Dec.{ltb}
 use lib.ListN.{length, getD}
 use Rattle.profile.specs.Limits.{spanMost}
-use Rattle.account.specs.Boundaries.{some}
+use Rattle.account.specs.Below.{some}
 use Rattle.account.specs.Account.{energyMost}
 use Rattle.statement.specs.Parts.{outputs}
 use Rattle.layout.specs.Text.{noStatement}

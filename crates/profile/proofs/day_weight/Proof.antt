@@ -9,19 +9,18 @@ use lib.Dec.{eqb·suc-zero}
 use lib.IntN.{ℤ}
 use mir.Facts.{toZ-ofZ}
 use Rattle.profile.specs.Limits.{inRange}
-use Rattle.profile.specs.Answers.{weightRefusal, weightNumber, weightIndex, weightGiven, WeightMet}
+use Rattle.profile.specs.Answers.{weightRefusal, weightNumber, weightGiven, WeightMet}
 use Rattle.profile.specs.declared.WeightAnswer.{WeightAnswer}
 use Rattle.profile.specs.declared.WeightAnswer.the-variants.{NoProfile, NoWeekday, OutOfRange}
-use Rattle.profile.proofs.Bounds.{weight-range, weight-floor}
+use Rattle.profile.proofs.Bounds.{whole-table}
 use Rattle.profile.proofs.day_weight.Statement.{statement}
 use Rattle.profile.proofs.day_weight.Tie as tie
 
 -- an answer that gives no weight, where a row's number says so
-declined : {k w : ℕ} {t : ℤ} (r : WeightAnswer) (n : ℕ) → weightRefusal k w t ≡ suc n → weightNumber r ≡ suc n → weightIndex r ≡ 0 → weightGiven r ≡ 0 → WeightMet k w t r
-declined {k} {w} {t} r n e f i g =
+declined : {k w : ℕ} {t : ℤ} (r : WeightAnswer) (n : ℕ) → weightRefusal k w t ≡ suc n → weightNumber r ≡ suc n → weightGiven r ≡ 0 → WeightMet k w t r
+declined {k} {w} {t} r n e f g =
     record {
       number = f ∙ sym e;
-      index = i;
       weight = rw (e, eqb·suc-zero n) g;
       floored = rw e (λ z. absurd (omega arith));
       least = rw e (λ z. absurd (omega arith));
@@ -30,12 +29,12 @@ declined {k} {w} {t} r n e f i g =
 
 -- row 1
 returns : tie.Need-returns
-returns c = declined NoProfile 0 (simp (le-leb _ _ (c .if1 .taken))) refl refl refl
+returns c = declined NoProfile 0 (simp (le-leb _ _ (c .if1 .taken))) refl refl
 
 -- row 2
 returns-2 : tie.Need-returns-2
 returns-2 c =
-    declined NoWeekday 1 (simp (lt-leb _ _ (c .before .if1 .left), lt-ltb 6 (c .before .before .args .weekday) (omega arith))) refl refl refl
+    declined NoWeekday 1 (simp (lt-leb _ _ (c .before .if1 .left), lt-ltb 6 (c .before .before .args .weekday) (omega arith))) refl refl
 
 in-range-requires : tie.Need-in-range-requires
 in-range-requires c κs = search needs
@@ -58,14 +57,13 @@ returns-3 c =
     let weekday = c .before .before .before .if2 .left in
     let range = sym (inside (c .before .before)) ∙ c .before .if3 .taken in
     let e = simp (toZ-ofZ (q .fits .t)) at (c .weight-at .ensures) in
-    let bounds = weight-range (q .args .number) (q .args .weekday) (q .args .t) profile (omega arith) range in
+    let known = whole-table (q .args .number) (q .args .weekday) (q .args .t) profile (omega arith) range in
     record {
       number = simp (lt-leb _ _ profile, le-ltb _ _ weekday, range);
-      index = refl;
       weight = simp (lt-leb _ _ profile, le-ltb _ _ weekday, range) e;
-      floored = λ z. rw e (weight-floor (q .args .number) (q .args .t) profile range (q .args .weekday) (omega arith));
-      least = λ z. rw e (bounds .0);
-      most = λ z. rw e (bounds .1);
+      floored = λ z. rw e (known .0);
+      least = λ z. rw e (known .1);
+      most = λ z. rw e (known .2);
     }
 
 -- row 4
@@ -77,7 +75,6 @@ returns-4 c =
       le-ltb _ _ (c .before .before .if2 .left),
       sym (inside (c .before)) ∙ c .if3 .left,
     ))
-    refl
     refl
     refl
 

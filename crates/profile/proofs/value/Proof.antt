@@ -1,12 +1,12 @@
 -- `profile::value` meets its contract: its tests are those of the rows, in their order.
 -- Assumes nothing.
-use mathlib.Core.Path.{_≡_, refl, sym, _∙_}
+use mathlib.Core.Path.{_≡_, sym, _∙_}
 use native.Mathlib.Omega.{arith}
 use borrow.Author.Needs.{needs}
 use borrow.Author.Tests.{le-leb, lt-leb}
 use mir.Facts.{toZ-ofZ}
 use Rattle.profile.specs.Limits.{inRange}
-use Rattle.profile.specs.Table.{profileOf}
+use Rattle.profile.specs.Coefficients.{profileOf}
 use Rattle.profile.proofs.Bounds.{low-fits, high-fits}
 use Rattle.profile.proofs.Power.{enclosed}
 use Rattle.profile.proofs.value.Statement.{statement}
@@ -18,7 +18,6 @@ returns c =
     let test = le-leb _ _ (c .if1 .taken) in
     record {
       number = simp test;
-      index = refl;
       low = simp test;
       high = simp test;
       encloses = simp test (λ e. absurd (omega arith));
@@ -48,7 +47,6 @@ returns-2 c =
     let v = simp (toZ-ofZ (q .fits .t)) at (c .before .values-at .ensures) in
     record {
       number = simp (test, range);
-      index = refl;
       low = simp (test, range, v .low-is) (toZ-ofZ (low-fits k t known range));
       high = simp (test, range, v .high-is) (toZ-ofZ (high-fits k t known range));
       encloses = λ e. enclosed (profileOf k) t range;
@@ -61,7 +59,6 @@ returns-3 c =
     let range = sym (inside (c .before)) ∙ c .if2 .left in
     record {
       number = simp (test, range);
-      index = refl;
       low = simp (test, range);
       high = simp (test, range);
       encloses = simp (test, range) (λ e. absurd (omega arith));

@@ -1,10 +1,10 @@
 -- `rounding::nearest_of` meets its contract: the quotient, or one more where the remainder is at least half of d. Assumes nothing.
 use mathlib.Core.Path.{_≡_, sym}
-use Prim.Native.Nat.{ℕ, _+_, _*_, _-_, _/_, _%_, _≤_, _<_, _^_}
+use Prim.Native.Nat.{ℕ, _+_, _-_, _/_, _%_, _≤_, _<_, _^_}
 use native.Mathlib.Nat.{div-add-mod', mod-lt, mul-le-mul-left}
 use native.Mathlib.Omega.{arith}
 use borrow.Author.Needs.{needs}
-use Rattle.rounding.specs.Nearest.{nearest, IsNearest}
+use Rattle.rounding.specs.Nearest.{nearest}
 use Rattle.rounding.proofs.Laws.{nearest-only, nearest-zero}
 use Rattle.rounding.proofs.nearest_of.Statement.{statement}
 use Rattle.rounding.proofs.nearest_of.Tie as tie

@@ -1,12 +1,12 @@
 -- `script::mean` meets its contract. Assumes nothing.
-use Prim.Native.Nat.{_-_, _≤_}
-use mathlib.Core.Path.{_≡_, sym, ap, _∙_}
+use Prim.Native.Nat.{_-_}
+use mathlib.Core.Path.{sym, ap, _∙_}
 use native.Mathlib.Omega.{arith}
 use lib.IntN.{pos, negℤ}
 use lib.ListN.{length, take, drop}
 use mir.Syntax.{w16}
 use mir.Facts.{toZ-ofZ, toZ-pos}
-use Rattle.script.specs.declared.Degrees.the-variants.{Mean}
+use Rattle.script.specs.declared.Hundredths.the-variants.{Mean}
 use Rattle.script.proofs.Digits.{no-mean, minus, plain, asMean, number-within}
 use borrow.Author.Needs.{needs}
 use Rattle.script.proofs.mean.Statement.{statement}

@@ -1,11 +1,10 @@
 -- `script::number` meets its contract. The loop's invariant: the digits passed have the value v, which is not too great, and the word has
 -- the value, and is all digits, as what is left of it says. Assumes nothing.
-use Prim.Native.Nat.{_+_, _-_, _*_, _≤_, _<_}
+use Prim.Native.Nat.{_-_, _≤_}
 use mathlib.Core.Path.{_≡_, refl, sym, _∙_}
-use mathlib.Core.Bool.{false, true}
 use native.Mathlib.Omega.{arith}
 use borrow.Author.Tests.{le-leb, lt-leb, eq-eqb}
-use lib.ListN.{length, getD, drop}
+use lib.ListN.{length, drop}
 use Rattle.script.specs.Words.{every}
 use Rattle.script.specs.Numbers.{isDigit, valueAfter, value}
 use Rattle.script.proofs.Digits.{value-more, value-end, digits-more, digits-end, no-digit, too-great, is-number}

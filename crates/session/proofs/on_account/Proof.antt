@@ -1,7 +1,7 @@
 -- `session::on_account` meets its contract: each call's own record. Assumes nothing.
-use mathlib.Core.Path.{_≡_, _∙_}
+use mathlib.Core.Path.{_∙_}
 use Rattle.account.specs.Account.{account}
-use Rattle.account.specs.Table.{readingNumber, withdrawNumber, cutNumber, uncutNumber}
+use Rattle.account.specs.Refusals.{readingNumber, withdrawNumber, cutNumber, uncutNumber}
 use borrow.Author.Needs.{needs}
 use Rattle.session.proofs.on_account.Statement.{statement}
 use Rattle.session.proofs.on_account.Tie as tie

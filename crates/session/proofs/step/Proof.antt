@@ -1,5 +1,5 @@
 -- `session::step` meets its contract: each command by what its call ensures. Assumes nothing.
-use mathlib.Core.Path.{_≡_, refl, sym, ap, _∙_}
+use mathlib.Core.Path.{refl, sym, ap, _∙_}
 use Rattle.account.specs.Account.{account}
 use Rattle.session.specs.Buffers.{held, laid}
 use Rattle.session.specs.Calls.{weightsOffer, daysOffer, after}

@@ -2,7 +2,7 @@
 use mathlib.Core.Path.{_≡_, _∙_}
 use Prim.Native.Nat.{suc}
 use native.Mathlib.Omega.{arith}
-use Rattle.account.specs.Boundaries.{howMany}
+use Rattle.account.specs.Below.{howMany}
 use Rattle.account.specs.Account.{Account, account, days, shown}
 use Rattle.statement.specs.Parts.{Outputs, outputs}
 use Rattle.statement.specs.Call.{zeroed}

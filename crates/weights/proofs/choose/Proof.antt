@@ -1,26 +1,14 @@
 -- `weights::choose` meets its contract: at each `return` the tests that led there say which row of `chosen` holds.
 -- Assumes nothing.
 use borrow.Author.Needs.{needs}
-use borrow.Author.Tests.{le-leb, lt-leb, leb-true}
-use mathlib.Core.Path.{_≡_, refl, sym, _∙_}
-use mathlib.Core.Bool.{Bool, true, false, _&&_}
-use mathlib.Core.List.{List}
-use Prim.Native.Nat.{ℕ, _+_, _≤_}
-use lib.IntN.{ℤ}
-use lib.ListN.{length}
+use borrow.Author.Tests.{le-leb, lt-leb}
+use mathlib.Core.Path.{refl, sym, _∙_}
+use Prim.Native.Nat.{_+_}
 use lib.Seq.{length-take-le}
 use Rattle.profile.specs.Limits.{spanMost}
-use Rattle.weights.specs.Choose.{serves}
+use Rattle.weights.proofs.Series.{serves-long}
 use Rattle.weights.proofs.choose.Statement.{statement}
 use Rattle.weights.proofs.choose.Tie as tie
-
--- a series that serves has so many means
-long : (s : List ℤ) (k : ℕ) → serves s k ≡ true → k ≤ length s
-long s k e = leb-true k (length s) (left _ _ e)
-  where
-    left : (a b : Bool) → a && b ≡ true → a ≡ true
-    left true b e = refl
-    left false b e = e
 
 slice-aggregate-result : tie.Need-slice-aggregate-result
 slice-aggregate-result c = search needs
@@ -51,7 +39,7 @@ add-result c = search needs
 slice-aggregate-result-3 : tie.Need-slice-aggregate-result-3
 slice-aggregate-result-3 c =
     let a = c .before .before .before .before .before .args in
-    sym (length-take-le _ _ (long (a .measured .now) (a .n + 3) (sym (c .before .before .serves .ensures) ∙ c .before .if3 .taken)))
+    sym (length-take-le _ _ (serves-long (a .measured .now) (a .n + 3) (sym (c .before .before .serves .ensures) ∙ c .before .if3 .taken)))
 
 returns-3 : tie.Need-returns-3
 returns-3 c =
@@ -72,7 +60,7 @@ add-result-2 c = search needs
 slice-aggregate-result-4 : tie.Need-slice-aggregate-result-4
 slice-aggregate-result-4 c =
     let a = c .before .before .before .before .before .before .before .args in
-    sym (length-take-le _ _ (long (a .forecast .now) (a .n + 3) (sym (c .before .before .serves2 .ensures) ∙ c .before .if4 .taken)))
+    sym (length-take-le _ _ (serves-long (a .forecast .now) (a .n + 3) (sym (c .before .before .serves2 .ensures) ∙ c .before .if4 .taken)))
 
 returns-4 : tie.Need-returns-4
 returns-4 c =

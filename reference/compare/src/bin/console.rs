@@ -1,9 +1,11 @@
 //! Section "Account and its calls": the console of the model, a script from standard input.
 
+use model::console::{console, MOST_BYTES};
 use std::io::{Read, Write};
 
 fn main() {
-    let mut script = Vec::new();
-    std::io::stdin().take(65_537).read_to_end(&mut script).unwrap();
-    std::io::stdout().write_all(model::console::console(&script).as_bytes()).unwrap();
+    let mut input = Vec::new();
+    // One byte past the limit tells that the input is longer.
+    std::io::stdin().take(MOST_BYTES as u64 + 1).read_to_end(&mut input).unwrap();
+    std::io::stdout().write_all(console(&input).as_bytes()).unwrap();
 }

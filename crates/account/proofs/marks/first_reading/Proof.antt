@@ -1,13 +1,13 @@
 -- `account::marks::first_reading` meets its contract. The loop's invariant: no boundary passed has a reading. Assumes nothing.
-use Prim.Native.Nat.{ℕ, _≤_, _-_}
+use Prim.Native.Nat.{_≤_, _-_}
 use native.Mathlib.Numerals.{add-one}
 use native.Mathlib.Omega.{arith}
-use mathlib.Core.Path.{_≡_, refl, sym, ap, _∙_}
+use mathlib.Core.Path.{_≡_, sym, _∙_}
 use mathlib.Core.Bool.{false}
 use lib.ListN.{length, getD}
-use Rattle.account.specs.Boundaries.{some, first}
+use Rattle.account.specs.Below.{some}
 use Rattle.account.specs.Account.{marksReading}
-use Rattle.account.proofs.Boundaries.{some-zero, some-none, first-at, first-none}
+use Rattle.account.proofs.Below.{some-zero, some-none, first-at, first-none}
 use Rattle.account.proofs.marks.first_reading.Statement.{statement}
 use Rattle.account.proofs.marks.first_reading.Tie as tie
 

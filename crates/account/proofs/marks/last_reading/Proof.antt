@@ -1,12 +1,12 @@
 -- `account::marks::last_reading` meets its contract. The loop's invariant: the last reading is that of the boundaries left.
 -- Assumes nothing.
-use Prim.Native.Nat.{ℕ, suc, _≤_, _-_}
+use Prim.Native.Nat.{_≤_, _-_}
 use native.Mathlib.Omega.{arith}
 use mathlib.Core.Path.{_≡_, refl, sym, ap, _∙_}
 use lib.ListN.{length, getD}
-use Rattle.account.specs.Boundaries.{last}
+use Rattle.account.specs.Below.{last}
 use Rattle.account.specs.Account.{marksReading}
-use Rattle.account.proofs.Boundaries.{last-zero, last-here, last-below}
+use Rattle.account.proofs.Below.{last-zero, last-here, last-below}
 use Rattle.account.proofs.marks.last_reading.Statement.{statement}
 use Rattle.account.proofs.marks.last_reading.Tie as tie
 

@@ -1,6 +1,6 @@
 -- `account::soundness::good_boundaries` meets its contract. The loop's invariant is `Passed`: the boundaries passed are sound, and
 -- `last` is the last reading's count. Assumes nothing.
-use Prim.Native.Nat.{ℕ, suc, _≤_, _<_, _-_, _+_}
+use Prim.Native.Nat.{suc, _≤_, _-_, _+_}
 use native.Mathlib.Numerals.{add-one}
 use native.Mathlib.Omega.{arith}
 use mathlib.Core.Path.{_≡_, sym, subst, _∙_}

@@ -2,15 +2,15 @@
 use Prim.Native.Nat.{ℕ, suc, _+_, _≤_, _<_, _-_}
 use native.Mathlib.Numerals.{add-one}
 use native.Mathlib.Omega.{arith}
-use mathlib.Core.Path.{_≡_, refl, sym, subst, _∙_}
+use mathlib.Core.Path.{_≡_, refl, sym, _∙_}
 use mathlib.Core.Bool.{Bool, true, false, _&&_, _||_, or-true}
 use lib.Dec.{ltb}
 use lib.ListN.{length}
-use Rattle.account.specs.Boundaries.{some}
+use Rattle.account.specs.Below.{some}
 use Rattle.account.specs.Stands.{Readings}
 use Rattle.account.specs.Account.{account, shown}
-use Rattle.account.specs.Table.{outOfOrder}
-use Rattle.account.proofs.Boundaries.{neither, some-zero, some-none, some-at}
+use Rattle.account.specs.Refusals.{outOfOrder}
+use Rattle.account.proofs.Below.{neither, some-zero, some-none, some-at}
 use Rattle.account.proofs.table.out_of_order.Statement.{statement}
 use Rattle.account.proofs.table.out_of_order.Tie as tie
 

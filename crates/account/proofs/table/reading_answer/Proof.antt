@@ -8,7 +8,7 @@ use lib.ListN.{length}
 use Rattle.account.specs.Stands.{put, withReading}
 use Rattle.account.specs.Account.{Account, account, days, shown, marksReading, energyMost}
 use Rattle.profile.specs.Rows.{row}
-use Rattle.account.specs.Table.{outOfOrder, tooMuch, readingNumber}
+use Rattle.account.specs.Refusals.{outOfOrder, tooMuch}
 use Rattle.account.specs.Slices.{readsAt, countAt, spread, boundaryRows}
 use Rattle.account.proofs.Rows.{Allowed, allowed, boundary-refuses, boundary-through}
 use Rattle.account.proofs.Spread.{spread-is}

@@ -5,7 +5,7 @@ use mathlib.Core.Path.{_≡_, refl, sym}
 use borrow.Author.Needs.{needs}
 use lib.Dec.{lit<}
 use lib.ListN.{length, length-set}
-use Rattle.casefile.specs.Case.{cutCount, cutPlace, cutBoundary}
+use Rattle.casefile.specs.Case.{cutsLength, cutOffset, cutBoundary}
 use Rattle.casefile.proofs.Faults.{goes}
 use Rattle.casefile.proofs.Marked.{CutsRead, cuts-none, cut-early, cut-falls, cut-outside, cut-stops, cuts-more}
 use Rattle.casefile.proofs.cuts.each_cut.Statement.{statement}
@@ -44,14 +44,14 @@ number16-requires : tie.Need-number16-requires Inv-loop μ-loop
 number16-requires c κs = omega arith
 
 -- the cut that was read is the definition's
-place : (c : tie.In-loop Inv-loop μ-loop) → c .before .before .before .before .args .at + 2 * c .before .loop .i ≡ cutPlace (c .before .before .before .before .args .file .now) (c .before .loop .i)
-place c = omega (arith, c .before .before .before .before .pre .starts)
+offset : (c : tie.In-loop Inv-loop μ-loop) → c .before .before .before .before .args .at + 2 * c .before .loop .i ≡ cutOffset (c .before .before .before .before .args .file .now) (c .before .loop .i)
+offset c = omega (arith, c .before .before .before .before .pre .starts)
 
 read : (c : tie.After-number16 Inv-loop μ-loop) → c .number16 .result ≡ cutBoundary (c .before .before .before .before .before .before .args .file .now) (c .before .before .before .loop .i)
-read c = rw (place (c .before .before)) at (c .number16 .ensures .0)
+read c = rw (offset (c .before .before)) at (c .number16 .ensures .0)
 
-long : (c : tie.Else1 Inv-loop μ-loop) → cutPlace (c .before .before .before .before .before .args .file .now) (c .before .before .loop .i) + 2 ≤ length (c .before .before .before .before .before .args .file .now)
-long c = rw (place (c .before)) at (c .if1 .left)
+long : (c : tie.Else1 Inv-loop μ-loop) → cutOffset (c .before .before .before .before .before .args .file .now) (c .before .before .loop .i) + 2 ≤ length (c .before .before .before .before .before .args .file .now)
+long c = rw (offset (c .before)) at (c .if1 .left)
 
 refused-requires-2 : tie.Need-refused-requires-2 Inv-loop μ-loop
 refused-requires-2 c κs = search needs
@@ -62,7 +62,7 @@ same-length-2 c = search needs
 returns-2 : tie.Need-returns-2 Inv-loop μ-loop
 returns-2 c =
     let r = c .before .before .before .before .before .loop .inv .2 in
-    cut-stops r (omega arith) (lit< tt) (c .refused2 .ensures) (rw (place (c .before .before .before .before)) (cut-falls r (long (c .before .before .before)) (rw (read (c .before .before)) at (c .before .if2 .taken))))
+    cut-stops r (omega arith) (lit< tt) (c .refused2 .ensures) (rw (offset (c .before .before .before .before)) (cut-falls r (long (c .before .before .before)) (rw (read (c .before .before)) at (c .before .if2 .taken))))
 
 refused-requires-3 : tie.Need-refused-requires-3 Inv-loop μ-loop
 refused-requires-3 c κs = search needs
@@ -75,7 +75,7 @@ returns-3 c =
     let r = c .before .before .before .before .before .before .loop .inv .2 in
     let b = read (c .before .before .before) in
     cut-stops r (omega arith) (lit< tt) (c .refused3 .ensures)
-    (rw (place (c .before .before .before .before .before)) (cut-outside r (long (c .before .before .before .before)) (rw b at (c .before .before .if2 .left)) (rw (b, c .before .before .before .before .before .before .before .before .before .pre .days-are) at (c .before .if3 .taken))))
+    (rw (offset (c .before .before .before .before .before)) (cut-outside r (long (c .before .before .before .before)) (rw b at (c .before .before .if2 .left)) (rw (b, c .before .before .before .before .before .before .before .before .before .pre .days-are) at (c .before .if3 .taken))))
 
 slice-read-with-cut : tie.Need-slice-read-with-cut Inv-loop μ-loop
 slice-read-with-cut c = omega arith
@@ -119,7 +119,7 @@ same-length-4 c = search needs
 returns-4 : tie.Need-returns-4 Inv-loop μ-loop
 returns-4 c =
     let s = c .before .before .before .before .before .args .file .now in
-    let e : c .before .before .loop .i ≡ cutCount s = omega arith in
+    let e : c .before .before .loop .i ≡ cutsLength s = omega arith in
     let r = c .before .before .loop .inv .2 in
     record { reached = goes (c .passed .ensures) (rw (← e) (sym (r .clean))) (c .before .before .before .before .before .pre .days-are) (omega arith); marks-are = λ z. rw (← e) (r .marks-are) }
 

@@ -6,7 +6,7 @@ use borrow.Author.Needs.{needs}
 use mathlib.Core.List.{List}
 use lib.ListN.{length, length-set}
 use Rattle.casefile.specs.declared.readings.Reading.{Reading}
-use Rattle.casefile.specs.Case.{daysOf, readingCount, readingPlace, readingBoundary, readingValue}
+use Rattle.casefile.specs.Case.{daysOf, readingsLength, readingOffset, readingBoundary, readingCount}
 use Rattle.casefile.specs.Faults.{none, readingFault}
 use Rattle.casefile.specs.Sections.{told}
 use Rattle.casefile.proofs.Faults.{met, stops, goes, first-told}
@@ -25,7 +25,7 @@ first-count-requires : tie.Need-first-count-requires Inv-loop μ-loop
 first-count-requires c κs = omega arith
 
 -- the first count, where its reading is whole
-counted : (c : tie.After-first-count Inv-loop μ-loop) → readingPlace (c .before .before .before .before .args .file .now) 0 + 10 ≤ length (c .before .before .before .before .args .file .now) → c .first-count .result ≡ readingValue (c .before .before .before .before .args .file .now) 0
+counted : (c : tie.After-first-count Inv-loop μ-loop) → readingOffset (c .before .before .before .before .args .file .now) 0 + 10 ≤ length (c .before .before .before .before .args .file .now) → c .first-count .result ≡ readingCount (c .before .before .before .before .args .file .now) 0
 counted c = rw (c .before .before .before .before .pre .starts) at (c .first-count .ensures)
 
 loop-holds : tie.Need-loop-holds Inv-loop μ-loop
@@ -41,24 +41,24 @@ reading-at-requires : tie.Need-reading-at-requires Inv-loop μ-loop
 reading-at-requires c κs = omega arith
 
 -- the item that was read is the definition's
-place : (c : tie.After-reading-at Inv-loop μ-loop) → c .before .before .before .before .before .before .before .args .at + 10 * c .before .before .loop .i ≡ readingPlace (c .before .before .before .before .before .before .before .args .file .now) (c .before .before .loop .i)
-place c = omega (arith, c .before .before .before .before .before .before .before .pre .starts)
+offset : (c : tie.After-reading-at Inv-loop μ-loop) → c .before .before .before .before .before .before .before .args .at + 10 * c .before .before .loop .i ≡ readingOffset (c .before .before .before .before .before .before .before .args .file .now) (c .before .before .loop .i)
+offset c = omega (arith, c .before .before .before .before .before .before .before .pre .starts)
 
 item : (c : tie.After-reading-at Inv-loop μ-loop) → told (c .reading-at .result .number) (c .reading-at .result .place) ≡ readingFault (c .before .before .before .before .before .before .before .args .file .now) (c .before .before .loop .i)
-item c = rw (place c, c .before .before .before .before .before .before .before .pre .days-are) at (c .reading-at .ensures .tells) ∙ item-is (c .before .before .loop .inv .4) (c .before .before .before .first-count .result) (counted (c .before .before .before))
+item c = rw (offset c, c .before .before .before .before .before .before .before .pre .days-are) at (c .reading-at .ensures .tells) ∙ item-is (c .before .before .loop .inv .4) (c .before .before .before .first-count .result) (counted (c .before .before .before))
 
 pub record Good (s : List ℕ) (i : ℕ) (r : Reading) : Type 0 where
   pub clean : readingFault s i ≡ none
   pub boundary-is : r .boundary ≡ readingBoundary s i
-  pub count-is : r .count ≡ readingValue s i
+  pub count-is : r .count ≡ readingCount s i
   pub inside : r .boundary ≤ daysOf s
 
 good : (c : tie.Else1 Inv-loop μ-loop) → Good (c .before .before .before .before .before .before .before .before .before .args .file .now) (c .before .before .before .before .loop .i) (c .before .before .reading-at .result)
 good c =
     let r = c .before .before .reading-at in
     let e = sym (item (c .before .before)) ∙ ap (λ (n : ℕ). told n (r .result .place)) (c .if1 .left) in
-    let b = rw (place (c .before .before)) at (r .ensures .boundary-is (c .if1 .left)) in
-    record { clean = e; boundary-is = b; count-is = rw (place (c .before .before)) at (r .ensures .count-is (c .if1 .left)); inside = rw b (sane _ (c .before .before .before .before .loop .i) e .inside) }
+    let b = rw (offset (c .before .before)) at (r .ensures .boundary-is (c .if1 .left)) in
+    record { clean = e; boundary-is = b; count-is = rw (offset (c .before .before)) at (r .ensures .count-is (c .if1 .left)); inside = rw b (sane _ (c .before .before .before .before .loop .i) e .inside) }
 
 refused-requires : tie.Need-refused-requires Inv-loop μ-loop
 refused-requires c κs = search needs
@@ -76,7 +76,7 @@ returns c =
     let n = c .before .if1 .taken in
     let l : 0 < c .before .before .before .reading-at .result .number = omega arith in
     record {
-      reached = stops l (c .refused .ensures) (first-told (readingFault s) (readingCount s) i (c .before .before .before .reading-at .result .number) (c .before .before .before .reading-at .result .place) (omega arith) (c .before .before .before .before .before .loop .inv .4 .clean) n (item (c .before .before .before)));
+      reached = stops l (c .refused .ensures) (first-told (readingFault s) (readingsLength s) i (c .before .before .before .reading-at .result .number) (c .before .before .before .reading-at .result .place) (omega arith) (c .before .before .before .before .before .loop .inv .4 .clean) n (item (c .before .before .before)));
       marks-are = λ z. absurd (met l (c .refused .ensures) z);
       counts-are = λ z. absurd (met l (c .refused .ensures) z);
     }
@@ -123,7 +123,7 @@ same-length-4 c = search needs
 returns-2 : tie.Need-returns-2 Inv-loop μ-loop
 returns-2 c =
     let s = c .before .before .before .before .before .before .before .args .file .now in
-    let e : c .before .before .loop .i ≡ readingCount s = omega arith in
+    let e : c .before .before .loop .i ≡ readingsLength s = omega arith in
     let r = c .before .before .loop .inv .4 in
     record {
       reached = goes (c .passed .ensures) (rw (← e) (sym (r .clean))) (c .before .before .before .before .before .before .before .pre .days-are) (omega arith);

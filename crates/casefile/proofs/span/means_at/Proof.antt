@@ -10,7 +10,7 @@ use mir.Syntax.{w16}
 use mir.Facts.{toZ-ofZ}
 use Rattle.profile.specs.Limits.{inRange}
 use Rattle.casefile.specs.Bytes.{number16, signed, signed16}
-use Rattle.casefile.specs.Case.{meanCount, meanPlace}
+use Rattle.casefile.specs.Case.{meansLength, meanOffset}
 use Rattle.casefile.specs.Faults.{none, meanFault}
 use Rattle.casefile.proofs.Faults.{met, stops, goes, first-is}
 use Rattle.casefile.proofs.Means.{MeansRead, means-none, means-more}
@@ -46,7 +46,7 @@ returns c =
     let s = c .before .before .before .before .before .args .file .now in
     let i = c .before .before .before .loop .i in
     record {
-      reached = stops (lit< tt) (c .refused .ensures) (sym (first-is (meanFault s) (meanCount s) i (omega arith) (c .before .before .before .loop .inv .2 .clean) (simp (lt-ltb (length s) (meanPlace i + 2) (omega arith)))));
+      reached = stops (lit< tt) (c .refused .ensures) (sym (first-is (meanFault s) (meansLength s) i (omega arith) (c .before .before .before .loop .inv .2 .clean) (simp (lt-ltb (length s) (meanOffset i + 2) (omega arith)))));
       read = λ z. absurd (met (lit< tt) (c .refused .ensures) z);
     }
 
@@ -57,12 +57,12 @@ signed-requires : tie.Need-signed-requires Inv-loop μ-loop
 signed-requires c κs = search needs
 
 -- the mean that was read is the definition's
-value : (c : tie.After-signed Inv-loop μ-loop) → c .signed .result ≡ signed16 (c .before .before .before .before .before .before .args .file .now) (meanPlace (c .before .before .before .before .loop .i))
+value : (c : tie.After-signed Inv-loop μ-loop) → c .signed .result ≡ signed16 (c .before .before .before .before .before .before .args .file .now) (meanOffset (c .before .before .before .before .loop .i))
 value c =
-    let e : c .before .before .before .before .before .before .args .at + 2 * c .before .before .before .before .loop .i ≡ meanPlace (c .before .before .before .before .loop .i) = omega arith in
+    let e : c .before .before .before .before .before .before .args .at + 2 * c .before .before .before .before .loop .i ≡ meanOffset (c .before .before .before .before .loop .i) = omega arith in
     c .signed .ensures ∙ ap signed (c .before .number16 .ensures .0 ∙ ap (number16 (c .before .before .before .before .before .before .args .file .now)) e)
 
-asked : (c : tie.After-in-range Inv-loop μ-loop) → c .in-range .result ≡ inRange (signed16 (c .before .before .before .before .before .before .before .args .file .now) (meanPlace (c .before .before .before .before .before .loop .i)))
+asked : (c : tie.After-in-range Inv-loop μ-loop) → c .in-range .result ≡ inRange (signed16 (c .before .before .before .before .before .before .before .args .file .now) (meanOffset (c .before .before .before .before .before .loop .i)))
 asked c = c .in-range .ensures ∙ ap inRange (toZ-ofZ {w = w16} (sfits-of (c .before .signed .ok)) ∙ value (c .before))
 
 in-range-requires : tie.Need-in-range-requires Inv-loop μ-loop
@@ -78,9 +78,9 @@ returns-2 : tie.Need-returns-2 Inv-loop μ-loop
 returns-2 c =
     let s = c .before .before .before .before .before .before .before .before .before .args .file .now in
     let i = c .before .before .before .before .before .before .before .loop .i in
-    let e : c .before .before .before .before .before .before .before .before .before .args .at + 2 * i ≡ meanPlace i = omega arith in
+    let e : c .before .before .before .before .before .before .before .before .before .args .at + 2 * i ≡ meanOffset i = omega arith in
     record {
-      reached = stops (lit< tt) (c .refused2 .ensures) (rw e (sym (first-is (meanFault s) (meanCount s) i (omega arith) (c .before .before .before .before .before .before .before .loop .inv .2 .clean) (simp (le-ltb (length s) (meanPlace i + 2) (omega arith), ← asked (c .before .before), not-true (c .before .before .in-range .result) (c .before .if2 .taken))))));
+      reached = stops (lit< tt) (c .refused2 .ensures) (rw e (sym (first-is (meanFault s) (meansLength s) i (omega arith) (c .before .before .before .before .before .before .before .loop .inv .2 .clean) (simp (le-ltb (length s) (meanOffset i + 2) (omega arith), ← asked (c .before .before), not-true (c .before .before .in-range .result) (c .before .if2 .taken))))));
       read = λ z. absurd (met (lit< tt) (c .refused2 .ensures) z);
     }
 
@@ -100,7 +100,7 @@ loop-again : tie.Need-loop-again Inv-loop μ-loop
 loop-again c =
     let s = c .before .before .before .before .before .before .before .before .args .file .now in
     let i = c .before .before .before .before .before .before .loop .i in
-    let clean : meanFault s i ≡ none = simp (le-ltb (length s) (meanPlace i + 2) (omega arith), ← asked (c .before), not-false (c .before .in-range .result) (c .if2 .left)) in
+    let clean : meanFault s i ≡ none = simp (le-ltb (length s) (meanOffset i + 2) (omega arith), ← asked (c .before), not-false (c .before .in-range .result) (c .if2 .left)) in
     (omega arith, simp length-set (omega arith), rw (toZ-ofZ {w = w16} (sfits-of (c .before .before .signed .ok)), value (c .before .before)) (means-more (c .before .before .before .before .before .before .loop .inv .2) (omega arith) clean))
 
 sub-passed : tie.Need-sub-passed Inv-loop μ-loop
@@ -122,7 +122,7 @@ returns-3 : tie.Need-returns-3 Inv-loop μ-loop
 returns-3 c =
     let s = c .before .before .before .before .args .file .now in
     let i = c .before .before .loop .i in
-    let e : i ≡ meanCount s = omega arith in
+    let e : i ≡ meansLength s = omega arith in
     record {
       reached = goes (c .passed .ensures) (rw (← e) (sym (c .before .before .loop .inv .2 .clean))) (omega arith) (omega arith);
       read = λ z. rw (← e) (c .before .before .loop .inv .2 .read);

@@ -1,5 +1,5 @@
 -- `layout::put::number` meets its contract: the digits that `io::decimal` gives, stored, and the byte after them. Assumes nothing.
-use mathlib.Core.Path.{_≡_, sym, ap, _∙_}
+use mathlib.Core.Path.{ap, _∙_}
 use mathlib.Core.List.{List}
 use Prim.Native.Nat.{ℕ, _+_, _≤_}
 use native.Mathlib.Omega.{arith}

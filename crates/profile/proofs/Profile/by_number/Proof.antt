@@ -7,7 +7,7 @@ use borrow.Author.Needs.{needs}
 use borrow.Author.Tests.{le-leb, lt-leb}
 use lib.ListN.{List·getD-eq-default}
 use Rattle.profile.specs.Limits.{profileCount}
-use Rattle.profile.specs.Table.{table, noProfile, profileOf}
+use Rattle.profile.specs.Coefficients.{table, noProfile, profileOf}
 use Rattle.profile.proofs.Tested.{profile-tested}
 use Rattle.profile.proofs.Profile.by_number.Statement.{statement}
 use Rattle.profile.proofs.Profile.by_number.Tie as tie

@@ -7,7 +7,7 @@ use borrow.Author.Needs.{needs}
 use mir.Facts.{toZ-ofZ}
 use Rattle.power.specs.Power.{one}
 use Rattle.profile.specs.Value.{highPower, lowPower}
-use Rattle.profile.specs.Parts.{RatioMet}
+use Rattle.profile.specs.Steps.{RatioMet}
 use Rattle.profile.proofs.Power.{low-is, high-is, low-le-one, high-le-one}
 use Rattle.profile.proofs.curve.low_share.Statement.{statement}
 use Rattle.profile.proofs.curve.low_share.Tie as tie

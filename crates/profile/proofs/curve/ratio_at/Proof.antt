@@ -8,7 +8,7 @@ use borrow.Author.Tests.{le-leb, lt-leb}
 use lib.IntN.{ℤ}
 use mir.Syntax.{w32}
 use mir.Facts.{toZ-ofZ}
-use Rattle.profile.specs.Parts.{RatioMet}
+use Rattle.profile.specs.Steps.{RatioMet}
 use Rattle.profile.specs.Value.{bOf, uOf}
 use Rattle.profile.specs.declared.Profile.{Profile}
 use Rattle.profile.proofs.curve.ratio_at.Statement.{statement}

@@ -7,8 +7,8 @@ use borrow.Author.Needs.{needs}
 use lib.IntN.{_+ℤ_}
 use mir.Facts.{toZ-ofZ}
 use Rattle.power.specs.Power.{one}
-use Rattle.profile.specs.Parts.{SharesMet}
-use Rattle.profile.specs.Table.{profileOf}
+use Rattle.profile.specs.Steps.{SharesMet}
+use Rattle.profile.specs.Coefficients.{profileOf}
 use Rattle.profile.specs.Value.{linear, valueLow, valueHigh}
 use Rattle.profile.specs.declared.Profile.{Profile}
 use Rattle.profile.proofs.Integer.{kept}

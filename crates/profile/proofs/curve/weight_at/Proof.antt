@@ -10,13 +10,13 @@ use mir.Syntax.{w64}
 use mir.Val.{toZ, ofZ}
 use mir.Facts.{toZ-ofZ}
 use Rattle.power.specs.Power.{one}
-use Rattle.profile.specs.Table.{profileOf}
+use Rattle.profile.specs.Coefficients.{profileOf}
 use Rattle.profile.specs.Value.{sLow, valueLow}
 use Rattle.profile.specs.Weight.{factorOf, weightOf}
 use Rattle.profile.specs.declared.Profile.{Profile}
 use Rattle.profile.proofs.Integer.{kept, at-most}
 use Rattle.profile.proofs.Tested.{profile-tested}
-use Rattle.profile.proofs.Bounds.{low-share-le, low-natural, low-bounded, low-fits, low-sum, weight-quotient, weight-range}
+use Rattle.profile.proofs.Bounds.{low-share-le, low-natural, low-bounded, low-fits, low-sum, weight-quotient, whole-table}
 use Rattle.profile.proofs.curve.weight_at.Statement.{statement}
 use Rattle.profile.proofs.curve.weight_at.Tie as tie
 
@@ -94,7 +94,7 @@ weight c =
 small : (c : tie.After-factor) → product c / 10_000_000 ≤ 6_999_999
 small c =
     let q = c .before .before .before .before .before in
-    rw (weight c) (weight-range (q .args .number) (q .args .weekday) (q .args .t) (q .pre .0) (q .pre .1) (q .pre .2) .1)
+    rw (weight c) (whole-table (q .args .number) (q .args .weekday) (q .args .t) (q .pre .0) (q .pre .1) (q .pre .2) .2)
 
 mul-result : tie.Need-mul-result
 mul-result c =

@@ -1,7 +1,7 @@
 -- `profile::row` meets its contract: the code's table is that of the definitions, by computation.
 -- Assumes nothing.
 use borrow.Author.Needs.{needs}
-use Rattle.profile.specs.Table.{table, noProfile, profileOf}
+use Rattle.profile.specs.Coefficients.{table, noProfile, profileOf}
 use Rattle.profile.proofs.Tested.{getD-any}
 use Rattle.profile.proofs.table.row.Statement.{statement}
 use Rattle.profile.proofs.table.row.Tie as tie

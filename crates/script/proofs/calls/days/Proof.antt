@@ -1,6 +1,5 @@
 -- `script::calls::days` meets its contract. Assumes nothing.
-use mathlib.Core.Path.{_≡_, refl, sym, ap, _∙_}
-use Rattle.script.specs.Words.{wordsLeft}
+use mathlib.Core.Path.{sym, ap, _∙_}
 use Rattle.script.specs.Calls.{daysCall}
 use Rattle.script.proofs.Split.{between, words-end, word-within}
 use Rattle.script.proofs.Judged.{days-of}

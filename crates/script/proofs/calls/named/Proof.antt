@@ -1,5 +1,5 @@
 -- `script::calls::named` meets its contract. Assumes nothing.
-use mathlib.Core.Path.{_≡_, refl, sym, ap, _∙_}
+use mathlib.Core.Path.{refl, sym, ap, _∙_}
 use Rattle.script.specs.Calls.{statementCall}
 use Rattle.script.proofs.Split.{words-next, words-end}
 use borrow.Author.Needs.{needs}

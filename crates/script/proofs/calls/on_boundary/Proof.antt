@@ -1,5 +1,5 @@
 -- `script::calls::on_boundary` meets its contract. Assumes nothing.
-use mathlib.Core.Path.{_≡_, sym, ap, _∙_}
+use mathlib.Core.Path.{sym, ap, _∙_}
 use Rattle.script.specs.declared.Decimal.{Decimal}
 use Rattle.script.specs.Calls.{with, boundaryCall}
 use borrow.Author.Needs.{needs}

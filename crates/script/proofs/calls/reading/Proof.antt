@@ -1,6 +1,5 @@
 -- `script::calls::reading` meets its contract. Assumes nothing.
-use mathlib.Core.Path.{_≡_, refl, sym, ap, _∙_}
-use Rattle.script.specs.Words.{wordsLeft}
+use mathlib.Core.Path.{refl, sym, ap, _∙_}
 use Rattle.script.specs.Calls.{readingCall}
 use Rattle.script.proofs.Split.{words-end, word-within}
 use Rattle.script.proofs.Judged.{reading-of}

@@ -1,6 +1,6 @@
 -- `script::lists::means_from` meets its contract. The loop's invariant: the values of the words passed are stored, as far as they fit. Assumes nothing.
 use Prim.Native.Nat.{_-_, _≤_}
-use mathlib.Core.Path.{_≡_, refl, sym, ap, _∙_}
+use mathlib.Core.Path.{_≡_, sym, ap, _∙_}
 use mathlib.Core.Logic.{⊎-elim}
 use native.Mathlib.Omega.{arith}
 use borrow.Author.Needs.{needs, zero≤}
@@ -9,7 +9,7 @@ use mir.Syntax.{w16}
 use mir.Facts.{toZ-ofZ}
 use lib.Seq.{set-out}
 use Rattle.script.specs.Words.{wordsLeft}
-use Rattle.script.specs.Numbers.{isMean, degrees, leading}
+use Rattle.script.specs.Numbers.{isMean, hundredths, leading}
 use Rattle.script.proofs.Split.{between, word-within}
 use Rattle.script.proofs.Digits.{mean-is, mean-none}
 use Rattle.script.proofs.Listing.{Filling, filling-none, filling-more, filling-all, leading-end, leading-next, leading-stop}
@@ -18,7 +18,7 @@ use Rattle.script.proofs.lists.means_from.Tie as tie
 
 abbrev Inv-loop : tie.InvT-loop
 Inv-loop line end out₀ at₀ i₀ out at i =
-    (i ≤ at) × Filling (leading isMean degrees (wordsLeft (drop end line))) out₀ i (leading isMean degrees (wordsLeft (drop at line))) out
+    (i ≤ at) × Filling (leading isMean hundredths (wordsLeft (drop end line))) out₀ i (leading isMean hundredths (wordsLeft (drop at line))) out
 
 abbrev μ-loop : tie.MeasureT-loop
 μ-loop line end out₀ at₀ i₀ out at i = length line - at
@@ -63,7 +63,7 @@ returns c =
     let given = c .before .before .before .before .next in
     let word = between (a .line .now) (l .before .loop .at) (given .result) in
     let bad = mean-none word (sym (c .before .before .mean .ensures) ∙ c .enum-told .given .1) in
-    filling-all (rw (leading-stop isMean degrees _ _ _ (l .loop-test .taken) (given .ensures) bad) at (l .before .loop .inv .1))
+    filling-all (rw (leading-stop isMean hundredths _ _ _ (l .loop-test .taken) (given .ensures) bad) at (l .before .loop .inv .1))
 
 mul-x : tie.Need-mul-x Inv-loop μ-loop
 mul-x c = omega arith
@@ -88,14 +88,14 @@ loop-again c =
     let out : c .if1 .out ≡ set (l .before .loop .out) (l .before .loop .i) x =
     ⊎-elim (λ w. w .1 ∙ ap (set (l .before .loop .out) (l .before .loop .i)) (toZ-ofZ {w = w16} {z = x} (record { sfits = omega (arith, c .before .known-told) }))) (λ w. w .1 ∙ sym (set-out (l .before .loop .out) (l .before .loop .i) x (w .0 .left))) (c .if1 .came) in (
       omega (arith, given .ensures),
-      rw out (filling-more (rw (leading-next isMean degrees _ _ _ (l .loop-test .taken) (given .ensures) x (good .0) (good .1)) at (l .before .loop .inv .1))),
+      rw out (filling-more (rw (leading-next isMean hundredths _ _ _ (l .loop-test .taken) (given .ensures) x (good .0) (good .1)) at (l .before .loop .inv .1))),
     )
 
 same-length-2 : tie.Need-same-length-2 Inv-loop μ-loop
 same-length-2 c = c .before .loop .inv .1 .long
 
 returns-2 : tie.Need-returns-2 Inv-loop μ-loop
-returns-2 c = filling-all (rw (leading-end isMean degrees _ _ (c .loop-test .left)) at (c .before .loop .inv .1))
+returns-2 c = filling-all (rw (leading-end isMean hundredths _ _ (c .loop-test .left)) at (c .before .loop .inv .1))
 
 pub means-from-spec : {M : Type 1} → statement M
 means-from-spec =

@@ -1,6 +1,6 @@
 -- `script::lists::weights_from` meets its contract. The loop's invariant: the values of the words passed are stored, as far as they fit. Assumes nothing.
 use Prim.Native.Nat.{_-_, _≤_}
-use mathlib.Core.Path.{_≡_, refl, sym, ap, _∙_}
+use mathlib.Core.Path.{_≡_, sym, _∙_}
 use mathlib.Core.Logic.{⊎-elim}
 use native.Mathlib.Omega.{arith}
 use borrow.Author.Needs.{needs, zero≤}

@@ -3,7 +3,7 @@ use Prim.Native.Nat.{_-_}
 use mathlib.Core.Path.{_≡_, refl, sym, _∙_}
 use native.Mathlib.Omega.{arith}
 use borrow.Author.Tests.{eq-eqb, ne-eqb}
-use lib.ListN.{length, getD}
+use lib.ListN.{length}
 use Rattle.script.specs.Words.{next}
 use Rattle.script.proofs.Split.{next-more, next-here, next-end}
 use Rattle.script.proofs.words.next.Statement.{statement}

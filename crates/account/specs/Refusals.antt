@@ -1,10 +1,10 @@
 -- The table of refusals for the account's calls (If a call declines), row by row in the order in which they are checked.
 -- 0 is done: "a call is accepted if no condition of the table holds for it".
-use Prim.Native.Nat.{ℕ, suc, _+_}
+use Prim.Native.Nat.{ℕ, suc}
 use mathlib.Core.Bool.{Bool, not, _&&_, _||_}
 use lib.Dec.{ltb}
 use Rattle.profile.specs.Rows.{row}
-use Rattle.account.specs.Boundaries.{some}
+use Rattle.account.specs.Below.{some}
 use Rattle.account.specs.Stands.{Stands, Readings, withReading, lastLessFirst}
 use Rattle.account.specs.Account.{Account, days, shown, unfit, sound, goodWeights, energyMost}
 

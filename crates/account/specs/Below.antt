@@ -1,4 +1,4 @@
--- Questions about the boundaries below a given one, each asked by counting up from 0 (Account and its calls).
+-- Questions about the numbers below a given one (boundaries, days, parts), each asked by counting up from 0 (Account and its calls).
 use Prim.Native.Nat.{ℕ, zero, suc, _+_}
 use mathlib.Core.Bool.{Bool, true, false, cond, _&&_, _||_}
 

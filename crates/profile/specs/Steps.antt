@@ -4,7 +4,7 @@ use mathlib.Core.Bool.{Bool}
 use Prim.Native.Nat.{ℕ, _≤_, _^_}
 use lib.IntN.{ℤ, natAbs}
 use Rattle.profile.specs.Value.{cold, ratioN, ratioM, sLow, sHigh, line, larger, valueLow, valueHigh}
-use Rattle.profile.specs.Table.{profileOf}
+use Rattle.profile.specs.Coefficients.{profileOf}
 use Rattle.profile.specs.declared.Profile.{Profile}
 
 pub record RatioMet (p : Profile) (t : ℤ) (side : Bool) (n m : ℕ) : Type 0 where

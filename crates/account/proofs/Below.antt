@@ -6,7 +6,7 @@ use Prim.Native.Nat.{ℕ, zero, suc, _≤_, _<_}
 use native.Mathlib.Nat.{not-suc-le-zero, eq-or-lt-of-le, le-of-suc-le-suc}
 use native.Mathlib.Omega.{arith}
 use borrow.Author.Tests.{leb-true}
-use Rattle.account.specs.Boundaries.{every, some, howMany, first, last}
+use Rattle.account.specs.Below.{every, some, howMany, first, last}
 use Rattle.account.specs.Stands.{Readings, neverFalling}
 
 -- a test that is true is not false
@@ -67,7 +67,7 @@ module _ (p : ℕ → Bool) where
       go rest true e = (m, omega arith, e)
       go rest false e = let r = rest (omega (arith, rw e at h)) in (r .0, omega (arith, r .1), r .2)
 
-  first-some : (m : ℕ) → some p m ≡ true → IsFirst p m (first p m)
+  pub first-some : (m : ℕ) → some p m ≡ true → IsFirst p m (first p m)
   unfolding first some
   first-some zero h = absurd (clash h refl)
   first-some (suc m) h = go (λ e. first-some m e) (some p m) refl
@@ -243,10 +243,11 @@ module _ (p : ℕ → Bool) where
   last-at m k l e none = last-is (record { below = l; holds = e; none-after = none })
 
 -- a reading has at least what the reading before it has
-pub rising : (r : Readings) (m : ℕ) → neverFalling r m ≡ true → (k : ℕ) → k < m → r .at k ≡ true → r .count (last (r .at) k) ≤ r .count k
+pub rising : (r : Readings) (m : ℕ) → neverFalling r m ≡ true → (k : ℕ) → k < m → r .at k ≡ true → some (r .at) k ≡ true →
+    r .count (last (r .at) k) ≤ r .count k
 unfolding neverFalling
-rising r zero h k lt at = absurd (omega arith)
-rising r (suc m) h k lt at =
+rising r zero h k lt at earlier = absurd (omega arith)
+rising r (suc m) h k lt at earlier =
     let b = both (neverFalling r m) _ h in
-    below-suc (λ j. r .at j ≡ true → r .count (last (r .at) j) ≤ r .count j) m (rising r m (b .0))
-    (λ here. leb-true _ _ (rw here at (b .1))) k lt at
+    below-suc (λ j. r .at j ≡ true → some (r .at) j ≡ true → r .count (last (r .at) j) ≤ r .count j) m (rising r m (b .0))
+    (λ here before. leb-true _ _ (simp (here, before) at (b .1))) k lt at earlier

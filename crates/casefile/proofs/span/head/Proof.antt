@@ -1,19 +1,17 @@
--- `casefile::span::head_at` meets its contract: each return rewrites the definition with the tests that led there. Assumes nothing.
+-- `casefile::span::head` meets its contract: each return rewrites the definition with the tests that led there. Assumes nothing.
 use native.Mathlib.Omega.{arith}
 use mathlib.Core.Path.{_≡_, refl, ap}
 use borrow.Author.Tests.{lt-ltb, le-ltb, lt-leb, le-leb}
 use lib.Dec.{lit<}
-use Prim.Native.Nat.{ℕ, _+_, _-_}
+use Prim.Native.Nat.{ℕ, _-_}
 use lib.ListN.{length, getD}
+use Rattle.profile.specs.Limits.{profileCount}
 use Rattle.account.specs.Account.{badSpan}
 use Rattle.casefile.specs.Faults.{fault, headFault}
 use Rattle.casefile.proofs.Faults.{stops, goes}
 use borrow.Author.Needs.{needs}
-use Rattle.casefile.proofs.span.head_at.Statement.{statement}
-use Rattle.casefile.proofs.span.head_at.Tie as tie
-
-add-if1 : tie.Need-add-if1
-add-if1 c = search needs
+use Rattle.casefile.proofs.span.head.Statement.{statement}
+use Rattle.casefile.proofs.span.head.Tie as tie
 
 refused-requires : tie.Need-refused-requires
 refused-requires c κs = search needs
@@ -21,8 +19,7 @@ refused-requires c κs = search needs
 returns : tie.Need-returns
 returns c =
     let s = c .before .before .before .args .file .now in
-    let at = c .before .before .before .args .at in
-    stops (lit< tt) (c .refused .ensures) (simp (lt-ltb (length s) (at + 1) (omega arith)))
+    stops (lit< tt) (c .refused .ensures) (simp (lt-ltb (length s) 1 (omega arith)))
 
 shared-slice-read-if2 : tie.Need-shared-slice-read-if2
 shared-slice-read-if2 c = search needs
@@ -33,11 +30,7 @@ refused-requires-2 c κs = search needs
 returns-2 : tie.Need-returns-2
 returns-2 c =
     let s = c .before .before .before .before .before .args .file .now in
-    let at = c .before .before .before .before .before .args .at in
-    stops (lit< tt) (c .refused2 .ensures) (simp (le-ltb (length s) (at + 1) (omega arith), lt-ltb 9 (getD s at 0) (omega arith)))
-
-add-if3 : tie.Need-add-if3
-add-if3 c = search needs
+    stops (lit< tt) (c .refused2 .ensures) (simp (le-ltb (length s) 1 (omega arith), le-leb profileCount (getD s 0 0) (omega arith)))
 
 refused-requires-3 : tie.Need-refused-requires-3
 refused-requires-3 c κs = search needs
@@ -45,17 +38,10 @@ refused-requires-3 c κs = search needs
 returns-3 : tie.Need-returns-3
 returns-3 c =
     let s = c .before .before .before .before .before .before .args .file .now in
-    let at = c .before .before .before .before .before .before .args .at in
-    stops (lit< tt) (c .refused3 .ensures) (simp (le-ltb (length s) (at + 1) (omega arith), le-ltb 9 (getD s at 0) (omega arith), lt-ltb (length s) (at + 2) (omega arith)))
-
-add-if4 : tie.Need-add-if4
-add-if4 c = search needs
+    stops (lit< tt) (c .refused3 .ensures) (simp (le-ltb (length s) 1 (omega arith), lt-leb profileCount (getD s 0 0) (omega arith), lt-ltb (length s) 2 (omega arith)))
 
 shared-slice-read-if4 : tie.Need-shared-slice-read-if4
 shared-slice-read-if4 c = search needs
-
-add-refused : tie.Need-add-refused
-add-refused c = search needs
 
 refused-requires-4 : tie.Need-refused-requires-4
 refused-requires-4 c κs = search needs
@@ -63,11 +49,7 @@ refused-requires-4 c κs = search needs
 returns-4 : tie.Need-returns-4
 returns-4 c =
     let s = c .before .before .before .before .before .before .before .before .args .file .now in
-    let at = c .before .before .before .before .before .before .before .before .args .at in
-    stops (lit< tt) (c .refused4 .ensures) (simp (le-ltb (length s) (at + 1) (omega arith), le-ltb 9 (getD s at 0) (omega arith), le-ltb (length s) (at + 2) (omega arith), lt-ltb 6 (getD s (at + 1) 0) (omega arith)))
-
-add-if5 : tie.Need-add-if5
-add-if5 c = search needs
+    stops (lit< tt) (c .refused4 .ensures) (simp (le-ltb (length s) 1 (omega arith), lt-leb profileCount (getD s 0 0) (omega arith), le-ltb (length s) 2 (omega arith), lt-ltb 6 (getD s 1 0) (omega arith)))
 
 refused-requires-5 : tie.Need-refused-requires-5
 refused-requires-5 c κs = search needs
@@ -75,24 +57,16 @@ refused-requires-5 c κs = search needs
 returns-5 : tie.Need-returns-5
 returns-5 c =
     let s = c .before .before .before .before .before .before .before .before .before .args .file .now in
-    let at = c .before .before .before .before .before .before .before .before .before .args .at in
-    stops (lit< tt) (c .refused5 .ensures) (simp (le-ltb (length s) (at + 1) (omega arith), le-ltb 9 (getD s at 0) (omega arith), le-ltb (length s) (at + 2) (omega arith), le-ltb 6 (getD s (at + 1) 0) (omega arith), lt-ltb (length s) (at + 4) (omega arith)))
+    stops (lit< tt) (c .refused5 .ensures) (simp (le-ltb (length s) 1 (omega arith), lt-leb profileCount (getD s 0 0) (omega arith), le-ltb (length s) 2 (omega arith), le-ltb 6 (getD s 1 0) (omega arith), lt-ltb (length s) 4 (omega arith)))
 
 -- the bytes are there, profile and weekday are good: the count of means is left to judge
-counted : (c : tie.After-number16) → headFault (c .before .before .before .before .before .before .before .before .before .args .file .now) (c .before .before .before .before .before .before .before .before .before .args .at) ≡ fault (badSpan (c .number16 .result - 3)) 3 (c .before .before .before .before .before .before .before .before .before .args .at + 2)
+counted : (c : tie.After-number16) → headFault (c .before .before .before .before .before .before .before .before .before .args .file .now) ≡ fault (badSpan (c .number16 .result - 3)) 3 2
 counted c =
     let s = c .before .before .before .before .before .before .before .before .before .args .file .now in
-    let at = c .before .before .before .before .before .before .before .before .before .args .at in
-    rw (c .number16 .ensures .0) (simp (le-ltb (length s) (at + 1) (omega arith), le-ltb 9 (getD s at 0) (omega arith), le-ltb (length s) (at + 2) (omega arith), le-ltb 6 (getD s (at + 1) 0) (omega arith), le-ltb (length s) (at + 4) (omega arith)))
-
-add-number16 : tie.Need-add-number16
-add-number16 c = search needs
+    rw (c .number16 .ensures .0) (simp (le-ltb (length s) 1 (omega arith), lt-leb profileCount (getD s 0 0) (omega arith), le-ltb (length s) 2 (omega arith), le-ltb 6 (getD s 1 0) (omega arith), le-ltb (length s) 4 (omega arith)))
 
 number16-requires : tie.Need-number16-requires
 number16-requires c κs = search needs
-
-add-refused-2 : tie.Need-add-refused-2
-add-refused-2 c = search needs
 
 refused-requires-6 : tie.Need-refused-requires-6
 refused-requires-6 c κs = search needs
@@ -105,9 +79,6 @@ returns-6 c =
 add-if7 : tie.Need-add-if7
 add-if7 c = search needs
 
-add-refused-3 : tie.Need-add-refused-3
-add-refused-3 c = search needs
-
 refused-requires-7 : tie.Need-refused-requires-7
 refused-requires-7 c κs = search needs
 
@@ -119,9 +90,6 @@ returns-7 c =
 sub-passed : tie.Need-sub-passed
 sub-passed c = search needs
 
-add-passed : tie.Need-add-passed
-add-passed c = search needs
-
 passed-requires : tie.Need-passed-requires
 passed-requires c κs = search needs
 
@@ -130,37 +98,28 @@ returns-8 c =
     let n = c .before .before .before .number16 .result - 3 in
     goes (c .passed .ensures) (rw (counted (c .before .before .before)) (simp (le-leb 1 n (omega arith), le-leb n 1096 (omega arith)))) (ap (λ (m : ℕ). m - 3) (c .before .before .before .number16 .ensures .0)) refl
 
-pub head-at-spec : {M : Type 1} → statement M
-head-at-spec =
+pub head-spec : {M : Type 1} → statement M
+head-spec =
     tie.close
     (tie.spec
-    add-if1
     refused-requires
     returns
     shared-slice-read-if2
     refused-requires-2
     returns-2
-    add-if3
     refused-requires-3
     returns-3
-    add-if4
     shared-slice-read-if4
-    add-refused
     refused-requires-4
     returns-4
-    add-if5
     refused-requires-5
     returns-5
-    add-number16
     number16-requires
-    add-refused-2
     refused-requires-6
     returns-6
     add-if7
-    add-refused-3
     refused-requires-7
     returns-7
     sub-passed
-    add-passed
     passed-requires
     returns-8)

@@ -1,0 +1,20 @@
+-- `console::printer::print` meets its contract: the text of a script is so short that its bytes have a number of 64 bits. Assumes nothing.
+use native.Mathlib.Omega.{arith}
+use borrow.Author.Needs.{needs}
+use Rattle.session.proofs.Sent.{sent-fits}
+use Rattle.console.proofs.printer.print.Statement.{statement}
+use Rattle.console.proofs.printer.print.Tie as tie
+
+add-bytes : tie.Need-add-bytes
+add-bytes c =
+    let start = c .before .before .before in
+    omega (arith, sent-fits (start .args .input .now) (start .args .sent .bytes) (start .args .piece .now) (omega arith) (start .pre .0))
+
+write-all-requires : tie.Need-write-all-requires
+write-all-requires c κs = search needs
+
+returns : tie.Need-returns
+returns c = search needs
+
+pub print-spec : {M : Type 1} → statement M
+print-spec = tie.close (tie.spec add-bytes write-all-requires returns)
