@@ -2,27 +2,27 @@
 use Prim.Native.Nat.{ℕ, zero, suc, _+_}
 use mathlib.Core.Bool.{Bool, true, false, cond, _&&_, _||_}
 
--- p holds at every boundary below m
+-- p holds at every number below m
 unfoldable pub every : (ℕ → Bool) → ℕ → Bool
 every p zero = true
 every p (suc m) = every p m && p m
 
--- p holds at some boundary below m
+-- p holds at some number below m
 unfoldable pub some : (ℕ → Bool) → ℕ → Bool
 some p zero = false
 some p (suc m) = some p m || p m
 
--- at how many boundaries below m p holds
+-- at how many numbers below m p holds
 unfoldable pub howMany : (ℕ → Bool) → ℕ → ℕ
 howMany p zero = 0
 howMany p (suc m) = howMany p m + cond (p m) 1 0
 
--- the first boundary below m at which p holds; m where there is none
+-- the first number below m at which p holds; m where there is none
 unfoldable pub first : (ℕ → Bool) → ℕ → ℕ
 first p zero = zero
 first p (suc m) = cond (some p m) (first p m) (cond (p m) m (suc m))
 
--- the last boundary below m at which p holds; 0 where there is none
+-- the last number below m at which p holds; 0 where there is none
 unfoldable pub last : (ℕ → Bool) → ℕ → ℕ
 last p zero = zero
 last p (suc m) = cond (p m) m (last p m)

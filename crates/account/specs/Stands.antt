@@ -1,5 +1,6 @@
 -- What stands (Account and its calls): the readings with their counts, and the cuts, as functions of the boundary.
--- The table and the statement's rule are written over this alone. Where no reading stands the count is 0.
+-- The table and the statement's rule are written over this alone. After a list of calls, and in a sound account, the count is 0
+-- where no reading stands.
 use Prim.Native.Nat.{ℕ, zero, suc, _-_}
 use mathlib.Core.Bool.{Bool, true, false, cond, _&&_}
 use lib.Dec.{leb, eqb}

@@ -165,7 +165,7 @@ fn count_with(counts: &[u64], k: usize, v: u64, j: usize) -> u64
     count_at(counts, j)
 }
 
-// Last less first, "its own count taken in among those standing".
+// Last less first, "its own count is taken in among those standing".
 fn last_less_first_with(marks: &[u8], counts: &[u64], k: usize, v: u64) -> u64
     requires { ⌜ k < length (now marks) ⌝ }
     ensures { λ r. ⌜ r ≡ spread (put (readsAt (now (marks .entry))) k true) (put (countAt (now (counts .entry))) k v) (length (now (marks .entry))) ⌝ }

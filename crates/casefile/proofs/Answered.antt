@@ -34,7 +34,7 @@ pub record Long (a : Account) : Type 0 where
 fit : (a : Account) → Long a → unfitSlices a ≡ false
 fit a l = simp (eq-eqb (length (a .weights)) spanMost (l .weights), eq-eqb (length (a .marks)) (spanMost + 1) (l .marks), eq-eqb (length (a .counts)) (spanMost + 1) (l .counts))
 
--- "3 at 0, nothing touched"
+-- 3 at 0, nothing touched
 pub unfit-met : (s : List ℕ) (lent : Account) → unfitSlices lent ≡ true → ReadMet s lent (Refused 3 0) lent s
 unfit-met s lent u = record { numbers = rw u refl; places = rw u refl; returns = rw u refl; fills = rw u refl; keeps = refl }
 

@@ -23,6 +23,6 @@ pub record LongestFile : Type 0 where
   pub most : (s : List ℕ) → faultOf s ≡ none → length s ≤ fileMost
   pub reached : Taken fileMost
 
--- reading no more than 16,384 bytes changes neither number nor place of the verdict
+-- reading no more than 16,384 bytes changes neither number nor place of the verdict (proofs/Enough, `enough`)
 abbrev pub EnoughBytes : Type 0
 EnoughBytes = (s : List ℕ) → faultOf (take bytesRead s) ≡ faultOf s

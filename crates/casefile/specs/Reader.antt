@@ -37,7 +37,7 @@ abbrev pub faultPlace : Fault → ℕ
 faultPlace none = 0
 faultPlace (refused r at) = at
 
--- the slices are 1,096, 1,097 and 1,097 long
+-- a slice is not as long as the reader asks: 1,096 weights, 1,097 marks, 1,097 counts
 abbrev pub unfitSlices : Account → Bool
 unfitSlices a =
     not (eqb (length (a .weights)) spanMost) ||

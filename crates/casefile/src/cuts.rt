@@ -49,7 +49,7 @@ fn each_cut(file: &[u8], at: usize, count: usize, days: usize, marks: &mut [u8])
     passed(days, at + 2 * count)
 }
 
-// The cuts' section and the end of the file, where what stands before has no fault.
+// The cuts' section and the end of the file, where nothing before has a fault.
 pub(crate) fn cuts_at(file: &[u8], at: usize, before: Progress, marks: &mut [u8]) -> Progress
     requires { ⌜ CutsFrom (now file) at before (now marks) ⌝ }
     ensures { λ r. ⌜ Closed (now (file .entry)) (faultOf (now (file .entry))) r (now (marks .exit)) ⌝ }

@@ -36,7 +36,6 @@ fn span<'a>(r: Reader<'a>, weights: &mut [u32]) -> Progress
     span_at(r.file, r.at, weights)
 }
 
-// The readings.
 fn readings<'a>(r: Reader<'a>, before: Progress, marks: &mut [u8], counts: &mut [u64]) -> Progress
     requires { ⌜ ReadingsFrom (now (r .file)) (r .at) before (now marks) (now counts) ⌝ }
     ensures { λ p. ⌜ Filed (now (r .entry .file)) (filedFault (now (r .entry .file))) p (now (marks .exit)) (now (counts .exit)) ⌝ }

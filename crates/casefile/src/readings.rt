@@ -113,7 +113,7 @@ fn each_reading(
     passed(days, at + 10 * count)
 }
 
-// The readings' section, where what stands before it has no fault.
+// The readings' section, where nothing before it has a fault.
 pub(crate) fn readings_at(
     file: &[u8],
     at: usize,

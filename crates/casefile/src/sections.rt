@@ -1,4 +1,4 @@
-// How far the reader has come after a section: the days and the next offset, or the fault it met.
+// How far the reader has come after a section (Case file): the days and the next offset, or the fault it met.
 ghost use mathlib.Core.Path.{_≡_};
 
 pub(crate) struct Progress {

@@ -1,5 +1,5 @@
--- Customer value (Kundenwert) and daily amount: "The customer value, in units of 0.1 Wh, is nearest(energy × 10^7 / Z), energy in Wh, Z the sum of
--- the lent weights. The daily amount is nearest(value × weight / 10^7) Wh."
+-- Customer value, or Kundenwert, and daily amount (Customer value and daily amount): "The customer value, in units of 0.1 Wh, is
+-- nearest(energy × 10^7 / Z), energy in Wh, Z the sum of the lent weights. The daily amount is nearest(value × weight / 10^7) Wh."
 use Prim.Native.Nat.{ℕ, _*_}
 use mathlib.Core.Path.{_≡_}
 use mathlib.Core.Bool.{not}

@@ -1,4 +1,4 @@
-// The calls for C and Rust, on slices and numbers: each is the call below it, its answer given as the paper's number, place and values.
+// The calls for C and Rust, on slices and numbers: each is the call below it, its answer given as the number, place and values of the table (If a call declines).
 // include/arvadush.h declares them.
 mod returned;
 

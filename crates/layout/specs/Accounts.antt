@@ -25,7 +25,8 @@ accountText a =
 abbrev pub answeredText : StatementAnswer → Outputs → List ℕ
 answeredText answer o = ifDone (number answer) (statementText o (partCount answer)) (refusalText (number answer) 0)
 
--- room for the text of any account: 21 bytes for a number, so 28 for the line `parts`, 66 for each of 1,096 lines and 26 for `sum`
+-- room for the text of any account: 21 digits for a number and a byte after it, so 28 for the line `parts`, 66 for each of 1,096 lines and
+-- 26 for `sum`
 abbrev pub textMost : ℕ
 textMost = 72_390
 

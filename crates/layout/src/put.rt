@@ -1,4 +1,4 @@
-// Bytes, words and decimal numbers, put one after the other into a lent slice.
+// Bytes, words and decimal numbers (Case file, the printed text), put one after the other into a lent slice.
 ghost use Prim.Native.Nat.{_+_, _<_, _≤_, _^_};
 ghost use mathlib.Core.List.{_∷_, [], _++_};
 ghost use lib.ListN.{length};

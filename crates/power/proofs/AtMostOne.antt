@@ -1,4 +1,4 @@
--- The power of a ratio at most one is at most one, and that of one is one: `Profile value`.
+-- The power of a ratio at most one is at most one, and that of one is one (Profile value).
 -- Assumes nothing.
 use mathlib.Core.Path.{_≡_, refl}
 use mathlib.Core.Bool.{Bool, true, false, cond}

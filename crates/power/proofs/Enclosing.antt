@@ -1,4 +1,4 @@
--- The power by roots stands to the exact power as its rounding says: `Profile value`.
+-- The power by roots stands to the exact power as its rounding says (Profile value).
 -- Assumes nothing.
 use mathlib.Core.Path.{_≡_, subst}
 use mathlib.Core.Bool.{cond}

@@ -1,4 +1,4 @@
--- What is known of the two bounds of a power (`Profile value`), for every ratio N / M at most one and every exponent: they enclose the exact power, they are at most one, and one where the ratio is.
+-- What is known of the two bounds of a power (Profile value), for every ratio N / M at most one and every exponent: they enclose the exact power, they are at most one, and one where the ratio is.
 -- Assumes nothing.
 use mathlib.Core.Path.{_≡_}
 use Prim.Native.Nat.{ℕ, _*_, _^_, _≤_, _<_}

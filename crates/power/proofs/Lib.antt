@@ -1,4 +1,4 @@
--- Laws of `Profile value`'s power. Callers use `Laws`; `Root` has what a root is, and `AtMostOne` that the power of one is one.
+-- Laws of the power (Profile value). Callers use `Laws`; `Root` has what a root is, and `AtMostOne` that the power of one is one.
 mod Powers
 mod Way
 mod Quotient

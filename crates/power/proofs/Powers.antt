@@ -1,4 +1,4 @@
--- Laws of powers of whole numbers, for `Profile value`: of a product, of a power, and the order of the bases.
+-- Laws of powers of whole numbers (Profile value): of a product, of a power, and the order of the bases.
 -- Assumes nothing.
 use mathlib.Core.Path.{_≡_, ap, _∙_}
 use Prim.Native.Nat.{ℕ, zero, suc, _+_, _*_, _^_, _≤_, _<_}

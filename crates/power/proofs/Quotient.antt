@@ -1,4 +1,4 @@
--- A quotient rounded either way, for `Profile value`: how it stands to the exact one, and that no whole number lies between.
+-- A quotient rounded either way (Profile value): how it stands to the exact one, and that no whole number lies between.
 -- Assumes nothing.
 use mathlib.Core.Path.{_≡_}
 use Prim.Native.Nat.{ℕ, _+_, _-_, _*_, _/_, _≤_, _<_}

@@ -1,4 +1,4 @@
--- The square root rounded either way, for `Profile value`, by Newton's iteration from above: how it stands to the exact one, and that no whole number lies between.
+-- The square root rounded either way (Profile value), by Newton's iteration from above: how it stands to the exact one, and that no whole number lies between.
 -- Assumes nothing.
 use mathlib.Core.Path.{_≡_, refl}
 use mathlib.Core.Bool.{Bool, true, false, cond}

@@ -1,4 +1,4 @@
--- One turn of each loop of `Profile value`, and its end, in the words of the definitions.
+-- One turn of each loop of the power (Profile value), and its end, in the words of the definitions.
 -- Assumes nothing.
 use mathlib.Core.Path.{_≡_, refl}
 use mathlib.Core.Bool.{cond}

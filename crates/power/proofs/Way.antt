@@ -1,4 +1,4 @@
--- What rounding does to a number, for `Profile value`: rounded down it is at most the exact one, rounded up at least. One relation for both, so that a law is proved once.
+-- What rounding does to a number (Profile value): rounded down it is at most the exact one, rounded up at least. One relation for both, so that a law is proved once.
 -- Assumes nothing.
 use mathlib.Core.Path.{_≡_}
 use Prim.Native.Nat.{ℕ, _+_, _-_, _*_, _^_, _≤_, _<_}

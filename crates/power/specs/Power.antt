@@ -1,5 +1,5 @@
--- `Profile value`: "Put one = 2^30." The exponent, the power of a ratio by roots, its two bounds, and that they enclose the exact power.
--- A caller's proof needs nothing of how they are computed: proofs/Laws has what is known of them.
+-- The power of a ratio (Profile value): "Put one = 2^30." The exponent, the power of a ratio by roots, its two bounds, and that they enclose the exact power.
+-- Callers' proofs use proofs/Laws, and open only `one` and `quotient`.
 use mathlib.Core.Path.{_≡_}
 use mathlib.Core.Bool.{true, false, cond}
 use Prim.Native.Nat.{ℕ, zero, suc, _+_, _-_, _*_, _/_, _%_, _^_, _≤_, _<_}

@@ -1,4 +1,4 @@
-// The power by repeated products and by roots, rounded down or up: `Profile value`.
+// The power by repeated products and by roots, rounded down or up (Profile value).
 use super::rounded;
 use super::rounded::ONE;
 use super::rounded::Rounding;

@@ -1,4 +1,4 @@
-// Powers of a ratio at most one, rounded down and up, in units of 2^-30: `Profile value`.
+// Powers of a ratio at most one, rounded down and up, in units of 2^-30 (Profile value).
 mod ladder;
 mod rounded;
 

@@ -1,4 +1,4 @@
-// Quotients, products and roots in units of 2^-30, rounded down or up: `Profile value`.
+// Quotients, products and roots in units of 2^-30, rounded down or up (Profile value).
 ghost use mathlib.Core.Path.{_≡_};
 ghost use Prim.Native.Nat.{_+_, _*_, _^_, _≤_, _<_};
 ghost use Rattle.power.specs.Power as spec;

@@ -1,4 +1,4 @@
--- If a call declines: rows 1, 2 and 4 of the table, for profile by number, profile value and day weight, and what these calls
+-- The calls on profiles (If a call declines): rows 1, 2 and 4 of the table, for profile by number, profile value and day weight, and what these calls
 -- promise. "Checks run 3, 1, 2, 4"; "Single values refused are zero"; "The index of 4 is 0 for one temperature".
 use mathlib.Core.Path.{_≡_}
 use mathlib.Core.Bool.{not}

@@ -1,4 +1,4 @@
--- Profiles: "Numbers 0 to 9, in the order of table 4"; "Coefficients A, B, C, D, mH, bH, mW, bW are whole ten-millionths,
+-- The ten profiles (Profiles): "Numbers 0 to 9, in the order of table 4"; "Coefficients A, B, C, D, mH, bH, mW, bW are whole ten-millionths,
 -- factors F whole ten-thousandths, Monday 0 to Sunday 6." The numbers are those of tables 4 and 5 of source document 001.
 use mathlib.Core.List.{List, [], _∷_}
 use Prim.Native.Nat.{ℕ, _+_}

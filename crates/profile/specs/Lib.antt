@@ -1,4 +1,4 @@
--- What the contracts of crate profile cite: `Profiles`, `Profile value`, `If a call declines`.
+-- What the contracts of crate profile cite (Profiles, Profile value, If a call declines).
 pub mod Limits
 pub mod Rows
 pub mod Coefficients

@@ -1,4 +1,4 @@
--- If a call declines: how the paper's table is written down, row under row, and what it says of memory.
+-- The form of the table (If a call declines): how the paper's table is written down, row under row, and what it says of memory.
 use Prim.Native.Nat.{ℕ, _-_}
 use mathlib.Core.Bool.{Bool, true, false, cond}
 use mathlib.Core.List.{List, _++_}

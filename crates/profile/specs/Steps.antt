@@ -1,4 +1,4 @@
--- What the private functions of the profile value promise: the steps of `Profile value`, each equal to its definition.
+-- What the private functions of the profile value promise (Profile value): its steps, each equal to its definition.
 use mathlib.Core.Path.{_≡_}
 use mathlib.Core.Bool.{Bool}
 use Prim.Native.Nat.{ℕ, _≤_, _^_}

@@ -1,4 +1,4 @@
--- Profile value (h value): "Written for temperature t in hundredths." Each definition below has its sentence of that section above it.
+-- The profile value, or h value (Profile value): "Written for temperature t in hundredths." Each definition below has its sentence of that section above it.
 use mathlib.Core.Path.{_≡_}
 use mathlib.Core.Bool.{Bool, true, cond}
 use Prim.Native.Nat.{ℕ, _+_, _*_, _/_, _^_, _≤_, _<_}
@@ -36,7 +36,7 @@ highPower p t = pHigh (ratioN p t) (ratioM p t) (p .c)
 abbrev pub EnclosedPower : Profile → ℤ → Type 0
 EnclosedPower p t = Encloses (ratioN p t) (ratioM p t) (p .c) (lowPower p t) (highPower p t)
 
--- "The ratio is never above one", and the powers enclose, whatever eight coefficients a profile has (proofs/Power, `any-profile`)
+-- no ratio is above one, and the powers enclose, whatever eight coefficients a profile has (proofs/Power, `any-profile`)
 abbrev pub AnyProfile : Type 0
 AnyProfile = (p : Profile) (t : ℤ) → inRange t ≡ true → (0 < ratioM p t) × (ratioN p t ≤ ratioM p t) × EnclosedPower p t
 

@@ -1,4 +1,4 @@
--- Profile value: "A day's weight, in millionths, is floor(low value × F / 10^7)."
+-- The weight of a day (Profile value): "A day's weight, in millionths, is floor(low value × F / 10^7)."
 use mathlib.Core.Path.{_≡_}
 use mathlib.Core.Bool.{true}
 use Prim.Native.Nat.{ℕ, _/_, _≤_, _<_}
@@ -13,12 +13,13 @@ abbrev pub floorℤ : ℤ → ℕ → ℤ
 floorℤ (pos n) d = pos (n / d)
 floorℤ (negsuc n) d = negsuc (n / d)
 
--- q times d and a rest below d (proofs/Integer, `floor-is`)
+-- q times d and a rest below d
 pub record IsFloor (x : ℤ) (d : ℕ) (q : ℤ) : Type 0 where
   pub rest : ℕ
   pub small : rest < d
   pub adds-up : x ≡ q *ℤ pos d +ℤ pos rest
 
+-- for every x (proofs/Integer, `floor-is`)
 abbrev pub FloorIs : Type 0
 FloorIs = (x : ℤ) (d : ℕ) → 0 < d → IsFloor x d (floorℤ x d)
 

@@ -1,4 +1,4 @@
-// The parts of a profile value in units of 10^-9: `Profile value`.
+// The parts of a profile value in units of 10^-9 (Profile value).
 use super::Profile;
 use super::table;
 ghost use mathlib.Core.Path.{_≡_};

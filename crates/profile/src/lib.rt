@@ -1,4 +1,4 @@
-// Profiles, profile value and day weight: `Profiles`, `Profile value`.
+// Profiles, profile value and day weight (Profiles, Profile value).
 mod curve;
 mod table;
 

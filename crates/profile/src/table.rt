@@ -1,4 +1,4 @@
-// The ten profiles, by number: `Profiles`.
+// The ten profiles, by number (Profiles).
 use super::Profile;
 ghost use mathlib.Core.Path.{_≡_};
 ghost use Prim.Native.Nat.{_<_};

@@ -6,7 +6,7 @@ use mathlib.Core.List.{List, [], _∷_}
 use lib.Dec.{eqb}
 use lib.ListN.{length, drop}
 
--- what stands before the first byte b; all where there is none
+-- what comes before the first byte b; all where there is none
 unfoldable pub upTo : ℕ → List ℕ → List ℕ
 upTo b [] = []
 upTo b (x ∷ s) = cond (eqb x b) [] (x ∷ upTo b s)
@@ -24,7 +24,7 @@ abbrev pub prefixed : ℕ → List (List ℕ) → List (List ℕ)
 prefixed x [] = []
 prefixed x (w ∷ ws) = (x ∷ w) ∷ ws
 
--- the words of a line: what stands between its spaces. A leading, trailing or double space has an empty word beside it.
+-- the words of a line: what comes between its spaces. A leading, trailing or double space has an empty word beside it.
 unfoldable pub words : List ℕ → List (List ℕ)
 words [] = [] ∷ []
 words (x ∷ s) = cond (eqb x 32) ([] ∷ words s) (prefixed x (words s))

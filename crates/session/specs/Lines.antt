@@ -3,9 +3,7 @@
 -- changes nothing.
 use Prim.Native.Nat.{ℕ}
 use mathlib.Core.Path.{_≡_}
-use mathlib.Core.Bool.{cond}
 use mathlib.Core.List.{List, []}
-use lib.Dec.{eqb}
 use Rattle.profile.specs.Rows.{ifDone}
 use Rattle.account.specs.Account.{Account}
 use Rattle.weights.specs.Weights.{Outcome}
@@ -19,7 +17,7 @@ use Rattle.session.specs.Calls.{callNumber, after, weightsOffer, daysOff
 use Rattle.session.specs.declared.Said.{Said}
 
 abbrev pub answerText : ℕ → ℕ → List ℕ
-answerText number place = cond (eqb number 0) doneText (refusalText number place)
+answerText number place = ifDone number doneText (refusalText number place)
 
 -- a session: the days of its account, 0 before the first accepted `weights` or `days`, and its buffers
 pub record Session : Type 0 where

@@ -1,4 +1,4 @@
-// The statement (Account and its calls, "Statement"): one pass over the days of an account.
+// The statement (Account and its calls, "Statement"): each weight is added at most twice, for Z and for Zk.
 mod clear;
 mod readings;
 
@@ -29,7 +29,7 @@ struct Progress {
     parts: usize,
 }
 
-// Writes the statement of an account into `from`, `to` and `wh`, and returns the number of its parts. Two readings and more have a part.
+// Writes the statement of an account into `from`, `to` and `wh`, and returns the number of its parts.
 pub fn statement(
     weights: &[u32],
     marks: &[u8],

@@ -1,2 +1,2 @@
--- What vectors states: `Starred cases`.
+-- What vectors states (Starred cases).
 pub mod Starred

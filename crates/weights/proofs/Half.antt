@@ -1,4 +1,4 @@
--- `Temperature of a day`: "No half can occur." Twice a whole number is even, and fifteen times an odd one is odd.
+-- Halves (Temperature of a day): "No half can occur." Twice a whole number is even, and fifteen times an odd one is odd.
 -- Assumes nothing.
 use mathlib.Core.Path.{_≡_, ap}
 use Prim.Native.Nat.{ℕ, _+_, _*_}

@@ -1,4 +1,4 @@
--- The weights of a span (`Temperature of a day`): how many they are, and the weight of day k. Assumes nothing.
+-- The weights of a span (Temperature of a day): how many they are, and the weight of day k. Assumes nothing.
 use mathlib.Core.Path.{_≡_, refl, _∙_, ap}
 use mathlib.Core.List.{List, [], _∷_, _++_}
 use Prim.Native.Nat.{ℕ, zero, suc, _-_, _<_}

@@ -1,4 +1,4 @@
--- `Temperature of a day`: "A span has n days, 1 to 1,096, and needs n+3 means". "The chooser returns, of the caller's two series, the first n+3
+-- The choice of a series (Temperature of a day): "A span has n days, 1 to 1,096, and needs n+3 means". "The chooser returns, of the caller's two series, the first n+3
 -- means of the measured one if it has that many, all in range; else those of the forecast on the same terms; else the empty part at the
 -- start of the measured one. It returns that empty part also where n is outside 1 to 1,096, and never declines."
 use mathlib.Core.Path.{_≡_}

@@ -1,4 +1,4 @@
--- What the calls of this crate promise: the paper's section `Temperature of a day` and rows 1 to 4 of the table.
+-- What the calls of this crate promise (Temperature of a day; rows 1 to 4 of the table).
 pub mod Means
 pub mod Temperature
 pub mod Choose

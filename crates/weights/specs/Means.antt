@@ -1,4 +1,4 @@
--- `Temperature of a day`: "Daily means are whole hundredths of a degree C, -5,000 to 3,999." The table: "4, index: first mean out of range".
+-- Daily means (Temperature of a day): "Daily means are whole hundredths of a degree C, -5,000 to 3,999." The table: "4, index: first mean out of range".
 use mathlib.Core.Bool.{Bool}
 use mathlib.Core.List.{List, [], _∷_}
 use Prim.Native.Nat.{ℕ, suc}

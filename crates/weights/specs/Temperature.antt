@@ -1,4 +1,4 @@
--- `Temperature of a day`: "With today's mean a and those of one, two and three days before b, c, d, the allocation temperature is
+-- The allocation temperature (Temperature of a day): "With today's mean a and those of one, two and three days before b, c, d, the allocation temperature is
 -- nearest((8a+4b+2c+d)/15). No half can occur." The table: the index of 4 is "0 to 3 for four means in the order a, b, c, d", "single values refused are zero".
 use mathlib.Core.Path.{_≡_}
 use mathlib.Core.Bool.{true}
@@ -20,16 +20,16 @@ abbrev pub weighted : ℤ → ℤ → ℤ → ℤ → ℤ
 weighted a b c d = pos 8 *ℤ a +ℤ pos 4 *ℤ b +ℤ pos 2 *ℤ c +ℤ d
 
 -- 8 + 4 + 2 + 1
-abbrev pub fifteen : ℕ
-fifteen = 15
+abbrev pub divisor : ℕ
+divisor = 15
 
 -- the allocation temperature: a mean of four days, geometric weights
 unfoldable pub temperatureOf : ℤ → ℤ → ℤ → ℤ → ℤ
-temperatureOf a b c d = nearestℤ (weighted a b c d) fifteen
+temperatureOf a b c d = nearestℤ (weighted a b c d) divisor
 
 -- "No half can occur": no such sum over 15 is an odd number over 2 (proofs/Half, `no-half`)
 abbrev pub NoHalf : Type 0
-NoHalf = (a b c d q : ℤ) → pos 2 *ℤ weighted a b c d ≡ (pos 2 *ℤ q +ℤ pos 1) *ℤ pos fifteen → ⊥
+NoHalf = (a b c d q : ℤ) → pos 2 *ℤ weighted a b c d ≡ (pos 2 *ℤ q +ℤ pos 1) *ℤ pos divisor → ⊥
 
 -- the temperature of means in range is in range, so that every day of a span has a weight (proofs/Raised, `temperature-in-range`)
 abbrev pub TemperatureInRange : Type 0

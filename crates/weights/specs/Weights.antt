@@ -1,4 +1,4 @@
--- `Temperature of a day`: "Day k, from 0, has its own mean at index k+3, and its weekday is day 0's plus k, modulo 7." The table: rows 3, 1, 2 and 4,
+-- The weights of a span (Temperature of a day): "Day k, from 0, has its own mean at index k+3, and its weekday is day 0's plus k, modulo 7." The table: rows 3, 1, 2 and 4,
 -- n being "the number of means less three"; rows 1, 2 and 4 say "outputs zero", row 3 "untouched".
 use mathlib.Core.Path.{_≡_}
 use mathlib.Core.Bool.{Bool, false, not, _||_}

@@ -1,4 +1,4 @@
-// The days of a span: one temperature, one power and one weight each, in one pass.
+// The days of a span (Temperature of a day): one temperature, one power and one weight each, in one pass.
 ghost use mathlib.Core.Path.{_≡_};
 ghost use mathlib.Core.Bool.{true, false};
 ghost use Prim.Native.Nat.{_+_, _<_};

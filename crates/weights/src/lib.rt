@@ -1,4 +1,4 @@
-// Allocation temperatures, the choice of the series of means, and the weights of a span: paper section `Temperature of a day`.
+// Allocation temperatures, the choice of the series of means, and the weights of a span (Temperature of a day).
 mod days;
 mod means;
 

@@ -1,4 +1,4 @@
-// Daily means: their range, and the rule of four of them. Inside, means are raised by 5,000 and unsigned.
+// Daily means (Temperature of a day): their range, and the rule of four of them. Inside, means are raised by 5,000 and unsigned.
 ghost use mathlib.Core.Path.{_≡_};
 ghost use mathlib.Core.Bool.{true};
 ghost use Prim.Native.Nat.{_<_};
