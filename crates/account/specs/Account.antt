@@ -53,8 +53,11 @@ abbrev pub badSpan : ℕ → Bool
 badSpan n = not (isSpan n)
 
 -- "... or a lent length unfit": marks and counts are n+1 long
+abbrev pub unfitLengths : ℕ → ℕ → ℕ → Bool
+unfitLengths n marks counts = badSpan n || not (eqb marks (n + 1)) || not (eqb counts (n + 1))
+
 abbrev pub unfit : Account → Bool
-unfit a = badSpan (days a) || not (eqb (length (a .marks)) (days a + 1)) || not (eqb (length (a .counts)) (days a + 1))
+unfit a = unfitLengths (days a) (length (a .marks)) (length (a .counts))
 
 -- "Sound: weights 1 to 6,999,999, ..."
 abbrev pub goodWeight : ℕ → Bool

@@ -1,14 +1,14 @@
 -- Short names for the contracts of the private functions, some of which take single slices (Account and its calls).
 use Prim.Native.Nat.{ℕ, suc, _+_, _-_, _≤_}
 use mathlib.Core.Path.{_≡_}
-use mathlib.Core.Bool.{Bool, not, cond, _&&_, _||_}
+use mathlib.Core.Bool.{Bool, cond, _&&_}
 use mathlib.Core.List.{List}
 use lib.Dec.{ltb, eqb}
 use lib.ListN.{length, getD}
 use Rattle.profile.specs.Limits.{spanMost}
 use Rattle.account.specs.Below.{first, last}
 use Rattle.account.specs.Stands.{neverFalling}
-use Rattle.account.specs.Account.{Account, days, shown, badSpan, marksReading, goodMarks, zeroCounts}
+use Rattle.account.specs.Account.{Account, days, shown, marksReading, goodMarks, zeroCounts}
 use Rattle.profile.specs.Rows.{row}
 use Rattle.account.specs.Refusals.{accountRows}
 
@@ -23,10 +23,6 @@ countAt counts k = getD counts k 0
 -- last less first, over the boundaries below m
 abbrev pub spread : (ℕ → Bool) → (ℕ → ℕ) → ℕ → ℕ
 spread at count m = count (last at m) - count (first at m)
-
--- row 3 for the lengths of weights, marks and counts
-abbrev pub misfit : ℕ → ℕ → ℕ → Bool
-misfit n marks counts = badSpan n || not (eqb marks (n + 1)) || not (eqb counts (n + 1))
 
 -- the lengths of an account that fits
 pub record Fit (a : Account) : Type 0 where

@@ -2,12 +2,12 @@
 use crate::marks::is_reading;
 use profile::Profile;
 ghost use mathlib.Core.Path.{_≡_};
-ghost use Rattle.account.specs.Account.{account};
-ghost use Rattle.account.specs.Slices.{Fit, misfit, goodBoundaries};
+ghost use Rattle.account.specs.Account.{account, unfitLengths};
+ghost use Rattle.account.specs.Slices.{Fit, goodBoundaries};
 
 // Row 3: n outside 1 to 1,096, or marks or counts not n+1 long.
 pub(crate) fn unfit(n: usize, marks: usize, counts: usize) -> bool
-    ensures { λ r. ⌜ r ≡ misfit n marks counts ⌝ }
+    ensures { λ r. ⌜ r ≡ unfitLengths n marks counts ⌝ }
 {
     if n < 1 {
         return true;

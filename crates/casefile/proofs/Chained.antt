@@ -34,7 +34,7 @@ module _ {s : List ℕ} {at : ℕ} {so-far : Progress} {marks counts : List ℕ}
 
   module _ (z : so-far .number ≡ 0) where
     pub readings-offset : at ≡ readingsOffset s
-    readings-offset = a .follows ∙ a .reached .stands z
+    readings-offset = a .follows ∙ a .reached .next-is z
 
     span : GoodSpan (daysOf s)
     span = span-none s (clean (a .reached) z)
@@ -102,7 +102,7 @@ module _ {s : List ℕ} {at : ℕ} {so-far : Progress} {marks : List ℕ} (a : C
 
   module _ (z : so-far .number ≡ 0) where
     cuts-offset : at ≡ cutsOffset s
-    cuts-offset = a .follows ∙ a .reached .stands z
+    cuts-offset = a .follows ∙ a .reached .next-is z
 
     pub cuts-near : at ≤ length s
     cuts-near = rw cuts-offset (cuts-start s (clean (a .reached) z))
@@ -139,7 +139,7 @@ module _ {s : List ℕ} {at : ℕ} {so-far : Progress} {marks : List ℕ} (a : C
 
         module _ (y : p .number ≡ 0) where
           ends : p .next ≡ endOf s
-          ends = r .reached .stands y
+          ends = r .reached .next-is y
 
           pub cuts-left : {q : Progress} → q ≡ record { number = 13; place = p .next; days = 0; next = 0 } → p .next < length s → Closed s (faultOf s) q m
           cuts-left e h =

@@ -20,7 +20,7 @@ pub met : {number place : ℕ} {p : Progress} → 0 < number → p ≡ record { 
 met l e z = omega (arith, ap (λ (q : Progress). q .number) e)
 
 pub stops : {f : Fault} {n next number place : ℕ} {p : Progress} → 0 < number → p ≡ record { number = number; place = place; days = 0; next = 0 } → told number place ≡ f → Reached f n next p
-stops l e t = record { tells = rw e t; days-are = λ z. absurd (met l e z); stands = λ z. absurd (met l e z) }
+stops l e t = record { tells = rw e t; days-are = λ z. absurd (met l e z); next-is = λ z. absurd (met l e z) }
 
 -- no fault
 pub goes : {f : Fault} {n next days at : ℕ} {p : Progress} → p ≡ record { number = 0; place = 0; days = days; next = at } → none ≡ f → days ≡ n → at ≡ next → Reached f n next p
@@ -28,7 +28,7 @@ goes e t d a =
     record {
       tells = rw e t;
       days-are = λ z. ap (λ (q : Progress). q .days) e ∙ d;
-      stands = λ z. ap (λ (q : Progress). q .next) e ∙ a;
+      next-is = λ z. ap (λ (q : Progress). q .next) e ∙ a;
     }
 
 -- the items before i have no fault, and item i ..
@@ -112,11 +112,11 @@ stays {p = p} g r h =
     record {
       tells = told-first (p .number) (p .place) g h ∙ ap (λ (x : Fault). x before g) (r .tells);
       days-are = λ z. absurd (h z);
-      stands = λ z. absurd (h z);
+      next-is = λ z. absurd (h z);
     }
 
 pub joins : {f g : Fault} {m n at next : ℕ} {p q : Progress} → Reached f m at p → p .number ≡ 0 → Reached g n next q → Reached (f before g) n next q
-joins {f} {g} r z t = record { tells = t .tells ∙ ap (λ (x : Fault). x before g) (sym (clean r z)); days-are = t .days-are; stands = t .stands }
+joins {f} {g} r z t = record { tells = t .tells ∙ ap (λ (x : Fault). x before g) (sym (clean r z)); days-are = t .days-are; next-is = t .next-is }
 
 -- the fault that an item's number and place tell is the first of its section
 pub first-told : (f : ℕ → Fault) (m i number place : ℕ) → i < m → firstFault f i ≡ none → (number ≡ 0 → ⊥) → told number place ≡ f i → told number place ≡ firstFault f m

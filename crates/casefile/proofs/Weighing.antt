@@ -133,7 +133,7 @@ module _ (s : List ℕ) {head : Progress} (h : Reached (headFault s) (daysOf s) 
         let d = h .days-are z in
         let least = known .span .least in
         let most = known .span .most in
-        (h .stands z, omega arith, omega arith, omega arith, refl)
+        (h .next-is z, omega arith, omega arith, omega arith, refl)
 
     module _ {span : Progress} {means : List ℤ} (m : MeansMet s span means) where
       pub means-fault : (weights : List ℕ) → (span .number ≡ 0 → ⊥) → SpanMet s span weights

@@ -33,7 +33,7 @@ filedFault s = spanFault s before readingsFault s
 pub record Reached (f : Fault) (n next : ℕ) (p : Progress) : Type 0 where
   pub tells : told (p .number) (p .place) ≡ f
   pub days-are : p .number ≡ 0 → p .days ≡ n
-  pub stands : p .number ≡ 0 → p .next ≡ next
+  pub next-is : p .number ≡ 0 → p .next ≡ next
 
 -- the means, or their fault
 pub record MeansMet (s : List ℕ) (p : Progress) (means : List ℤ) : Type 0 where

@@ -12,7 +12,7 @@ use Rattle.profile.specs.Rows.{row}
 use Rattle.profile.specs.Limits.{isSpan}
 use Rattle.weights.specs.Choose.{Series, Measured, Forecast, Neither, serves, partOf, ChooseMet}
 use Rattle.weights.proofs.Series.{serves-long}
-use Rattle.ffi.specs.Calls.{seriesNumber, meansOf}
+use Rattle.ffi.specs.Calls.{seriesNumber, meansCount}
 
 -- the rows of the choice
 abbrev which : Bool → Bool → Bool → Series
@@ -32,20 +32,20 @@ length-alone s r n met = ap length (met .means-are) ∙ go (not (isSpan n)) (ser
     go false true h = length-take-le _ _ (h refl)
     go false false h = refl
 
-pub measured-taken : (a b f : Bool) (k x : ℕ) → x ≡ alone a b k → (x ≡ 0 → ⊥) → (1 ≡ seriesNumber (which a b f)) × (x ≡ meansOf (which a b f) k)
+pub measured-taken : (a b f : Bool) (k x : ℕ) → x ≡ alone a b k → (x ≡ 0 → ⊥) → (1 ≡ seriesNumber (which a b f)) × (x ≡ meansCount (which a b f) k)
 measured-taken true b f k x e some = absurd (some e)
 measured-taken false true f k x e some = (refl, e)
 measured-taken false false f k x e some = absurd (some e)
 
 pub forecast-taken :
-    (a b f : Bool) (k x : ℕ) → (k ≡ 0 → ⊥) → alone a b k ≡ 0 → x ≡ alone a f k → (x ≡ 0 → ⊥) → (2 ≡ seriesNumber (which a b f)) × (x ≡ meansOf (which a b f) k)
+    (a b f : Bool) (k x : ℕ) → (k ≡ 0 → ⊥) → alone a b k ≡ 0 → x ≡ alone a f k → (x ≡ 0 → ⊥) → (2 ≡ seriesNumber (which a b f)) × (x ≡ meansCount (which a b f) k)
 forecast-taken true b f k x any none e some = absurd (some e)
 forecast-taken false true f k x any none e some = absurd (any none)
 forecast-taken false false true k x any none e some = (refl, e)
 forecast-taken false false false k x any none e some = absurd (some e)
 
 pub neither-taken :
-    (a b f : Bool) (k : ℕ) → (k ≡ 0 → ⊥) → alone a b k ≡ 0 → alone a f k ≡ 0 → (0 ≡ seriesNumber (which a b f)) × (0 ≡ meansOf (which a b f) k)
+    (a b f : Bool) (k : ℕ) → (k ≡ 0 → ⊥) → alone a b k ≡ 0 → alone a f k ≡ 0 → (0 ≡ seriesNumber (which a b f)) × (0 ≡ meansCount (which a b f) k)
 neither-taken true b f k any none also = (refl, refl)
 neither-taken false true f k any none also = absurd (any none)
 neither-taken false false true k any none also = absurd (any also)

@@ -14,8 +14,8 @@ use Rattle.profile.specs.Answers.{valueRefusal, weightRefusal, Enclosed}
 use Rattle.weights.specs.Temperature.{temperatureNumber, temperaturePlace, temperatureValue}
 use Rattle.weights.specs.Choose.{Series, Measured, Forecast, Neither, choice}
 use Rattle.weights.specs.Weights.{outcome, Bounded}
-use Rattle.account.specs.Account.{Account, days, shown}
-use Rattle.statement.specs.Parts.{Outputs, parts, written}
+use Rattle.account.specs.Account.{Account, shown}
+use Rattle.statement.specs.Parts.{Outputs, parts, statementOf}
 use Rattle.statement.specs.Call.{statementNumber, outputsAfter}
 use Rattle.customer.specs.Customer.{customerRows, customerValue, amountRows, dailyAmount}
 use Rattle.casefile.specs.Case.{daysOf}
@@ -41,14 +41,14 @@ seriesNumber Measured = 1
 seriesNumber Forecast = 2
 seriesNumber Neither = 0
 
-abbrev pub meansOf : Series → ℕ → ℕ
-meansOf Measured count = count
-meansOf Forecast count = count
-meansOf Neither count = 0
+abbrev pub meansCount : Series → ℕ → ℕ
+meansCount Measured count = count
+meansCount Forecast count = count
+meansCount Neither count = 0
 
 pub record ChooseReturned (measured forecast : List ℤ) (n : ℕ) (r : Chosen) (measuredAfter forecastAfter : List ℤ) : Type 0 where
   pub series-is : r .series ≡ seriesNumber (choice measured forecast n)
-  pub means-are : r .means ≡ meansOf (choice measured forecast n) (n + 3)
+  pub means-are : r .means ≡ meansCount (choice measured forecast n) (n + 3)
   pub measured-stays : measuredAfter ≡ measured
   pub forecast-stays : forecastAfter ≡ forecast
 
@@ -86,7 +86,7 @@ pub record StatementReturned (before : Account) (lent : Outputs) (r : Outcome) (
   pub place : r .place ≡ 0
   pub counts : r .value ≡ ifDone (statementNumber before lent) (length (parts (before .weights) (shown before))) 0
   pub stays : after ≡ before
-  pub writes : out ≡ outputsAfter (statementNumber before lent) (written (days before) (parts (before .weights) (shown before))) lent
+  pub writes : out ≡ outputsAfter (statementNumber before lent) (statementOf (before .weights) (shown before)) lent
 
 -- ---- Customer value and daily amount
 pub record CustomerReturned (energy : ℕ) (w : List ℕ) (r : Outcome) (after : List ℕ) : Type 0 where

@@ -15,7 +15,7 @@ use Rattle.account.specs.declared.Answer.{Answer}
 use Rattle.account.specs.Calls.{OpenMet, number}
 use Rattle.account.specs.Stands.{Stands, lastLessFirst}
 use Rattle.statement.specs.declared.StatementAnswer.the-variants.{Parts}
-use Rattle.statement.specs.Parts.{Outputs, parts, written, marked}
+use Rattle.statement.specs.Parts.{Outputs, parts, marked, statementOf}
 use Rattle.statement.specs.Shares.{Adjacent, Shared, total, energy}
 use Rattle.statement.specs.Facts.{Successive}
 use Rattle.statement.specs.declared.StatementAnswer.{StatementAnswer}
@@ -48,10 +48,10 @@ pub record Demand3 (w : List ℕ) (es : List Event) : Type 0 where
   pub leaves : (before : List Event) (e : Event) → Among es before e → Carries w (standing w (before ++ (e ∷ []))) (accountAfter e)
   pub writes : (before : List Event) (lent : Outputs) (answer : StatementAnswer) (a : Account) (out : Outputs) →
       Among es before (run.statement lent answer a out) →
-      out ≡ statement.outputsAfter (statement.number answer) (written (length w) (parts w (standing w before))) lent
+      out ≡ statement.outputsAfter (statement.number answer) (statementOf w (standing w before)) lent
   -- "Every statement given has the number of parts, and the from, to and Wh of each, that the paper's rule gives for what then stands."
   pub statements : (before : List Event) (m : ℕ) (out : Outputs) → Given es before m out →
-      (m ≡ length (parts w (standing w before))) × (out ≡ written (length w) (parts w (standing w before)))
+      (m ≡ length (parts w (standing w before))) × (out ≡ statementOf w (standing w before))
   -- "Parts run between successive marked boundaries from the first reading to the last."
   pub successive : (before : List Event) (m : ℕ) (out : Outputs) → Given es before m out →
       Successive (length w) (standing w before) out m

@@ -1,4 +1,4 @@
--- The decimal digits of a number: the fewest that hold it are as many as `places` counts, at most 20 for 64 bits. Assumes nothing.
+-- The decimal digits of a number: the fewest that hold it are as many as `digitCount` counts, at most 20 for 64 bits. Assumes nothing.
 use mathlib.Core.Path.{_≡_, refl, sym, ap, _∙_}
 use mathlib.Core.Bool.{Bool, true, false, cond}
 use mathlib.Core.List.{[], _∷_}
@@ -11,11 +11,11 @@ use borrow.Author.Tests.{lt-ltb, le-ltb}
 use lib.Dec.{lit<, ltb}
 use lib.ListN.{length, length-append}
 use Rattle.io.specs.Digits.{digits, Fewest, glyph}
-use Rattle.layout.specs.Text.{places, decimal}
+use Rattle.layout.specs.Text.{digitCount, decimal}
 
 -- n has k + 1 digits
-places-is : (more k n : ℕ) → k ≤ more → n < 10 ^ suc k → (0 < k → 10 ^ k ≤ n) → places more n ≡ suc k
-unfolding places
+places-is : (more k n : ℕ) → k ≤ more → n < 10 ^ suc k → (0 < k → 10 ^ k ≤ n) → digitCount more n ≡ suc k
+unfolding digitCount
 places-is zero zero n h most least = refl
 places-is zero (suc k) n h most least = absurd (omega arith)
 places-is (suc more) zero n h most least = rw (lt-ltb n 10 most)
@@ -42,7 +42,7 @@ fewest-small n k fits fewest =
           absurd (omega (arith, fewest .2 (omega arith)))
     ]
 
-pub fewest-places : (n k : ℕ) → Fewest 10 1 n k → k ≤ 20 → places 20 n ≡ k
+pub fewest-places : (n k : ℕ) → Fewest 10 1 n k → k ≤ 20 → digitCount 20 n ≡ k
 fewest-places n zero fewest small = absurd (omega arith)
 fewest-places n (suc k) fewest small =
     let pred : suc k - 1 ≡ k = omega arith in
@@ -56,15 +56,15 @@ pub length-decimal : (n k : ℕ) → Fewest 10 1 n k → k ≤ 20 → length (de
 length-decimal n k fewest small = ap length (sym (decimal-is n k fewest small)) ∙ length-digits k n
 
 -- no number is printed with more than 21 digits
-places-most : (more n : ℕ) → places more n ≤ suc more
-unfolding places
+places-most : (more n : ℕ) → digitCount more n ≤ suc more
+unfolding digitCount
 places-most zero n = omega arith
 places-most (suc more) n = by (ltb n 10) (places-most more (n / 10))
   where
-    by : (b : Bool) → places more (n / 10) ≤ suc more → cond b 1 (suc (places more (n / 10))) ≤ suc (suc more)
+    by : (b : Bool) → digitCount more (n / 10) ≤ suc more → cond b 1 (suc (digitCount more (n / 10))) ≤ suc (suc more)
     by true h = omega arith
     by false h = omega arith
 
 pub decimal-most : (n : ℕ) → length (decimal n) ≤ 21
 unfolding decimal
-decimal-most n = omega (arith, length-digits (places 20 n) n, places-most 20 n)
+decimal-most n = omega (arith, length-digits (digitCount 20 n) n, places-most 20 n)

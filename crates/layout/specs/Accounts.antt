@@ -5,7 +5,7 @@ use lib.ListN.{length}
 use Rattle.profile.specs.Rows.{ifDone}
 use Rattle.account.specs.Account.{Account, days, shown}
 use Rattle.account.specs.Refusals.{accountRows}
-use Rattle.statement.specs.Parts.{Outputs, parts, written}
+use Rattle.statement.specs.Parts.{Outputs, parts, statementOf}
 use Rattle.statement.specs.Call.{number, partCount, statementRows}
 use Rattle.statement.specs.declared.StatementAnswer.{StatementAnswer}
 use Rattle.layout.specs.Text.{statementText, refusalText}
@@ -18,7 +18,7 @@ accountNumber a = accountRows a (statementRows (days a) (shown a))
 abbrev pub accountText : Account → List ℕ
 accountText a =
     ifDone (accountNumber a)
-    (statementText (written (days a) (parts (a .weights) (shown a))) (length (parts (a .weights) (shown a))))
+    (statementText (statementOf (a .weights) (shown a)) (length (parts (a .weights) (shown a))))
     (refusalText (accountNumber a) 0)
 
 -- what a statement call answered and wrote, as text

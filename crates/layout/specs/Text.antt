@@ -15,12 +15,12 @@ use Rattle.statement.specs.Parts.{Outputs}
 use Rattle.statement.specs.Shares.{total}
 
 -- how many decimal digits n has; 20 are enough for 64 bits
-unfoldable pub places : ℕ → ℕ → ℕ
-places zero n = 1
-places (suc more) n = cond (ltb n 10) 1 (suc (places more (n / 10)))
+unfoldable pub digitCount : ℕ → ℕ → ℕ
+digitCount zero n = 1
+digitCount (suc more) n = cond (ltb n 10) 1 (suc (digitCount more (n / 10)))
 
 unfoldable pub decimal : ℕ → List ℕ
-decimal n = digits 10 (places 20 n) n
+decimal n = digits 10 (digitCount 20 n) n
 
 abbrev pub space : List ℕ
 space = 32 ∷ []

@@ -98,14 +98,14 @@ pub fn in_range(t: i16) -> bool
 }
 
 // The profile value at a temperature, low and high.
-pub fn value(number: u8, t: i16) -> ValueAnswer
-    ensures { λ r. ⌜ ValueMet number t r ⌝ }
+pub fn value(profile: u8, t: i16) -> ValueAnswer
+    ensures { λ r. ⌜ ValueMet profile t r ⌝ }
 {
-    if Profile::COUNT <= number {
+    if Profile::COUNT <= profile {
         return ValueAnswer::NoProfile;
     }
     if in_range(t) {
-        let v = curve::values_at(number, t);
+        let v = curve::values_at(profile, t);
         return ValueAnswer::Value {
             low: v.low,
             high: v.high,
@@ -115,17 +115,17 @@ pub fn value(number: u8, t: i16) -> ValueAnswer
 }
 
 // The weight of one day.
-pub fn day_weight(number: u8, weekday: u8, t: i16) -> WeightAnswer
-    ensures { λ r. ⌜ WeightMet number weekday t r ⌝ }
+pub fn day_weight(profile: u8, weekday: u8, t: i16) -> WeightAnswer
+    ensures { λ r. ⌜ WeightMet profile weekday t r ⌝ }
 {
-    if Profile::COUNT <= number {
+    if Profile::COUNT <= profile {
         return WeightAnswer::NoProfile;
     }
     if 6 < weekday {
         return WeightAnswer::NoWeekday;
     }
     if in_range(t) {
-        return WeightAnswer::Weight(curve::weight_at(number, weekday, t));
+        return WeightAnswer::Weight(curve::weight_at(profile, weekday, t));
     }
     WeightAnswer::OutOfRange
 }

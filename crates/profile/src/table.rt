@@ -129,9 +129,9 @@ const TABLE: [Profile; 10] = [
     },
 ];
 
-pub(crate) fn row(number: u8) -> Profile
-    requires { ⌜ number < profileCount ⌝ }
-    ensures { λ r. ⌜ r ≡ profileOf number ⌝ }
+pub(crate) fn row(profile: u8) -> Profile
+    requires { ⌜ profile < profileCount ⌝ }
+    ensures { λ r. ⌜ r ≡ profileOf profile ⌝ }
 {
-    TABLE[number as usize]
+    TABLE[profile as usize]
 }

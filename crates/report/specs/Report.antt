@@ -7,7 +7,7 @@ use lib.ListN.{length, take}
 use Rattle.profile.specs.Rows.{ifDone}
 use Rattle.account.specs.Stands.{lastLessFirst}
 use Rattle.account.specs.Account.{Account, days, shown}
-use Rattle.statement.specs.Parts.{parts, written}
+use Rattle.statement.specs.Parts.{parts, statementOf}
 use Rattle.layout.specs.Text.{partsText, refusalText, LaidOut}
 use Rattle.layout.specs.Accounts.{accountNumber, accountText, textMost}
 use Rattle.casefile.specs.Case.{accountOf}
@@ -19,7 +19,7 @@ use Rattle.casefile.specs.Reader.{faultNumber, faultPlace, verdict, slicesAfter
 abbrev pub PrintedInFull : Type 0
 PrintedInFull = (a : Account) → accountNumber a ≡ 0 →
     accountText a ≡
-    partsText (written (days a) (parts (a .weights) (shown a))) (length (parts (a .weights) (shown a))) (lastLessFirst (days a) (shown a .readings))
+    partsText (statementOf (a .weights) (shown a)) (length (parts (a .weights) (shown a))) (lastLessFirst (days a) (shown a .readings))
 
 -- a refusal with its place, or what the account that the file names comes to
 abbrev pub textOf : Fault → List ℕ → List ℕ

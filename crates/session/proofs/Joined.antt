@@ -96,7 +96,7 @@ module _ (text : List ℕ) (at done : ℕ) (s : Session) (out : List ℕ) (ran :
 
   -- each line is at least a byte
   pub run-passes : ran .done + at ≤ done + ran .at
-  run-passes = omega (arith, met .counts, met .stands, offset-least (passed text at done s out) at)
+  run-passes = omega (arith, met .counts, met .next-is, offset-least (passed text at done s out) at)
 
   -- a run goes on where a line is left and the slice can hold an answer
   pub run-goes-on : at < length text → longest ≤ length out → done < most64 → at < ran .at
@@ -105,7 +105,7 @@ module _ (text : List ℕ) (at done : ℕ) (s : Session) (out : List ℕ) (ran :
       let goes : oneMore done (length out) ≡ true = simp (lt-ltb done most64 few, le-leb longest (length out) holds) in
       let first = ap (λ (ls : List (List ℕ)). runnable ls done s (length out)) (lines-next text at end more refl) ∙
       runnable-more done s (length out) (take (end - at) (drop at text)) (lines (drop (end + 1) text)) goes in
-      omega (arith, ap length first, met .stands, offset-least (passed text at done s out) at)
+      omega (arith, ap length first, met .next-is, offset-least (passed text at done s out) at)
 
   -- what is printed from here on is the answers, and what is printed from where the run ended on
   pub run-then : transcript (lines (drop at text)) done s ≡
@@ -115,7 +115,7 @@ module _ (text : List ℕ) (at done : ℕ) (s : Session) (out : List ℕ) (ran :
       let first = runnable-first (lines (drop at text)) done s (length out) in
       let ms : List (List ℕ) = first .0 in
       let rest : transcript (lines (drop (ran .at) text)) (ran .done) (session (ran .days) then) ≡ transcript ms (done + length ls) (sessionAfter ls s) =
-      ap (λ (l : List (List ℕ)). transcript l (ran .done) (session (ran .days) then)) (ap (λ (k : ℕ). lines (drop k text)) (met .stands) ∙ lines-after ls ms text at (first .1)) ∙
+      ap (λ (l : List (List ℕ)). transcript l (ran .done) (session (ran .days) then)) (ap (λ (k : ℕ). lines (drop k text)) (met .next-is) ∙ lines-after ls ms text at (first .1)) ∙
       ap₂ (transcript ms) (met .counts) (met .leaves) in
       ap (λ (l : List (List ℕ)). transcript l done s) (first .1) ∙
       transcript-join ms ls done s ∙

@@ -9,7 +9,7 @@ use borrow.Author.Tests.{lt-ltb, le-leb, ltb-true, ne-eqb}
 use lib.Dec.{lit<, ltb, eqb}
 use lib.ListN.{length}
 use Rattle.io.specs.Digits.{digits, glyph}
-use Rattle.layout.specs.Text.{places, decimal}
+use Rattle.layout.specs.Text.{digitCount, decimal}
 use Rattle.layout.proofs.Decimal.{length-digits}
 use Rattle.script.specs.Words.{every}
 use Rattle.script.specs.Numbers.{isDigit, valueAfter, value, most64}
@@ -50,29 +50,29 @@ digits-digits zero n = refl
 digits-digits (suc k) n = every-joined isDigit (digits 10 k (n / 10)) (glyph (n % 10)) (digits-digits k (n / 10)) (digit (n % 10) (omega arith))
 
 -- so many digits hold the number, and there is one at least
-places-hold : (more n : ℕ) → n < 10 ^ suc more → n < 10 ^ places more n
-unfolding places
+places-hold : (more n : ℕ) → n < 10 ^ suc more → n < 10 ^ digitCount more n
+unfolding digitCount
 places-hold zero n l = l
 places-hold (suc more) n l =
     let high : n < 10 ^ suc more * 10 = rw pow-suc at l in
     go (ltb n 10) refl (places-hold more (n / 10) (div-lt-iff-lt-mul (lit< tt) .1 high))
   where
-    go : (b : Bool) → ltb n 10 ≡ b → n / 10 < 10 ^ places more (n / 10) → n < 10 ^ cond b 1 (suc (places more (n / 10)))
+    go : (b : Bool) → ltb n 10 ≡ b → n / 10 < 10 ^ digitCount more (n / 10) → n < 10 ^ cond b 1 (suc (digitCount more (n / 10)))
     go true e h = ltb-true n 10 e
     go false e h = rw pow-suc (div-lt-iff-lt-mul (lit< tt) .0 h)
 
-places-some : (more n : ℕ) → 1 ≤ places more n
-unfolding places
+places-some : (more n : ℕ) → 1 ≤ digitCount more n
+unfolding digitCount
 places-some zero n = omega arith
 places-some (suc more) n = go (ltb n 10)
   where
-    go : (b : Bool) → 1 ≤ cond b 1 (suc (places more (n / 10)))
+    go : (b : Bool) → 1 ≤ cond b 1 (suc (digitCount more (n / 10)))
     go true = omega arith
     go false = omega arith
 
 pub read-back : ReadBack
 unfolding decimal
 read-back n l =
-    let is : value (decimal n) ≡ n = digits-value (places 20 n) n (places-hold 20 n (omega (arith, l))) in
-    let some : eqb (length (decimal n)) 0 ≡ false = ne-eqb (length (decimal n)) 0 (λ z. omega (arith, z, length-digits (places 20 n) n, places-some 20 n)) in
-    rw (some, digits-digits (places 20 n) n, is, le-leb n most64 l) refl
+    let is : value (decimal n) ≡ n = digits-value (digitCount 20 n) n (places-hold 20 n (omega (arith, l))) in
+    let some : eqb (length (decimal n)) 0 ≡ false = ne-eqb (length (decimal n)) 0 (λ z. omega (arith, z, length-digits (digitCount 20 n) n, places-some 20 n)) in
+    rw (some, digits-digits (digitCount 20 n) n, is, le-leb n most64 l) refl

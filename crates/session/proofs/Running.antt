@@ -189,7 +189,7 @@ pub record Going (text : List ℕ) (at done : ℕ) (before : Session) (out : Lis
   pub within : n ≤ length out
   pub leaves : s ≡ sessionAfter so-far before
   pub counts : next-done ≡ done + length so-far
-  pub stands : next-at ≡ offsetAfter at so-far
+  pub next-is : next-at ≡ offsetAfter at so-far
   pub left : passed text at done before out ≡ so-far ++ runnable (lines (drop next-at text)) next-done s (length out - n)
 
 module _ (text : List ℕ) (at done : ℕ) (before : Session) (out : List ℕ) where
@@ -203,7 +203,7 @@ module _ (text : List ℕ) (at done : ℕ) (before : Session) (out : List ℕ) w
         within = zero≤;
         leaves = refl;
         counts = sym (add-zero done);
-        stands = refl;
+        next-is = refl;
         left = ap (runnable (lines (drop at text)) done before) room;
       }
 
@@ -228,7 +228,7 @@ module _ (text : List ℕ) (at done : ℕ) (before : Session) (out : List ℕ) w
         within = omega (arith, long, says-short (commandOf line) line (d + 1) s, room-left d room goes);
         leaves = met .leaves ∙ ap (next (commandOf line) line) (g .leaves) ∙ sym (session-more line ls before);
         counts = omega (arith, g .counts, length-append ls (line ∷ []));
-        stands = omega (arith, offset-more line ls at, g .stands, width, line-within text k end h e);
+        next-is = omega (arith, offset-more line ls at, g .next-is, width, line-within text k end h e);
         left =
             g .left ∙
             ap (λ (t : List (List ℕ)). ls ++ runnable t d s room) (lines-next text k end h e) ∙
@@ -249,6 +249,6 @@ module _ (text : List ℕ) (at done : ℕ) (before : Session) (out : List ℕ) w
         answers = subst (λ (l : List (List ℕ)). LaidOut 0 (transcript l done before) out (ran .length) written) same (g .answers);
         leaves = g .leaves ∙ ap (λ (l : List (List ℕ)). sessionAfter l before) same;
         counts = g .counts ∙ ap (λ (l : List (List ℕ)). done + length l) same;
-        stands = g .stands ∙ ap (offsetAfter at) same;
+        next-is = g .next-is ∙ ap (offsetAfter at) same;
         stays = refl;
       }

@@ -71,5 +71,5 @@ pub record RunMet (text : List ℕ) (at done : ℕ) (before : Session) (out : Li
   pub answers : LaidOut 0 (transcript (passed text at done before out) done before) out (ran .length) written
   pub leaves : session (ran .days) then ≡ sessionAfter (passed text at done before out) before
   pub counts : ran .done ≡ done + length (passed text at done before out)
-  pub stands : ran .at ≡ offsetAfter at (passed text at done before out)
+  pub next-is : ran .at ≡ offsetAfter at (passed text at done before out)
   pub stays : kept ≡ text

@@ -12,9 +12,9 @@ use Rattle.account.specs.Below.{last}
 use Rattle.account.specs.Stands.{Stands, firstReading, lastReading, lastLessFirst}
 use Rattle.account.proofs.Below.{first-least, last-found, last-most}
 use Rattle.statement.specs.Split.{weightSum, shareOf, between, earlier, later}
-use Rattle.statement.specs.Parts.{Outputs, marked, parts}
+use Rattle.statement.specs.Parts.{Outputs, marked, parts, statementOf}
 use Rattle.statement.specs.Shares.{Adjacent, Shared, total, energy}
-use Rattle.statement.specs.Facts.{Fair, statementOf, SumsUp, SharesClose, SameEnergy}
+use Rattle.statement.specs.Facts.{Fair, SumsUp, SharesClose, SameEnergy}
 use Rattle.statement.proofs.Order.{read, some-read}
 use Rattle.statement.proofs.Has.{has-reading, has-between}
 use Rattle.statement.proofs.Near.{near}

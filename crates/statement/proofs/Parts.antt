@@ -15,9 +15,8 @@ use borrow.Author.Tests.{ltb-true, leb-true, lt-ltb, le-leb, lt-leb}
 use Rattle.account.specs.Stands.{Stands, firstReading, lastReading}
 use Rattle.account.proofs.Below.{clash, refuted}
 use Rattle.profile.specs.Rows.{filled}
-use Rattle.statement.specs.Parts.{Part, marked, endsPart, partTo, partsBelow, parts, written}
+use Rattle.statement.specs.Parts.{Part, marked, endsPart, partTo, partsBelow, parts, written, statementOf}
 use Rattle.statement.specs.Shares.{energy}
-use Rattle.statement.specs.Facts.{statementOf}
 
 needed : (b : Bool) → (b ≡ false → ⊥) → b ≡ true
 needed true h = refl

@@ -10,7 +10,7 @@ use Rattle.account.specs.Account.{Account, days, shown, unfit, sound}
 use Rattle.profile.specs.Rows.{row, ifDone, zeros}
 use Rattle.statement.specs.declared.StatementAnswer.{StatementAnswer}
 use Rattle.statement.specs.declared.StatementAnswer.the-variants.{Parts, Unfit, Unsound, TooFewReadings}
-use Rattle.statement.specs.Parts.{Outputs, outputs, parts, written}
+use Rattle.statement.specs.Parts.{Outputs, outputs, parts, statementOf}
 
 -- the paper's number and the number of parts for each answer; 0 is done, and a refused number of parts is 0
 abbrev pub number : StatementAnswer → ℕ
@@ -52,4 +52,4 @@ pub record StatementMet (before : Account) (lent : Outputs) (answer : StatementA
   pub answers : number answer ≡ statementNumber before lent
   pub counts : partCount answer ≡ ifDone (statementNumber before lent) (length (parts (before .weights) (shown before))) 0
   pub stays : after ≡ before
-  pub writes : out ≡ outputsAfter (statementNumber before lent) (written (days before) (parts (before .weights) (shown before))) lent
+  pub writes : out ≡ outputsAfter (statementNumber before lent) (statementOf (before .weights) (shown before)) lent

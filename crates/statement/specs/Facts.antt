@@ -11,7 +11,7 @@ use Rattle.account.specs.Below.{howMany}
 use Rattle.account.specs.Stands.{Stands, Readings, neverFalling, firstReading, lastReading, lastLessFirst}
 use Rattle.account.specs.Account.{goodWeights}
 use Rattle.statement.specs.Split.{has}
-use Rattle.statement.specs.Parts.{Outputs, marked, parts, written}
+use Rattle.statement.specs.Parts.{Outputs, marked, parts, statementOf}
 use Rattle.statement.specs.Shares.{Adjacent, Shared, total, energy}
 
 -- all that the facts ask of the weights and of the readings that stand
@@ -22,10 +22,6 @@ pub record Fair (w : List ℕ) (r : Readings) : Type 0 where
 -- fewer than two readings is not the case
 abbrev pub TwoReadings : List ℕ → Stands → Type 0
 TwoReadings w s = ltb (howMany (s .readings .at) (suc (length w))) 2 ≡ false
-
--- the slices of a statement given
-abbrev pub statementOf : List ℕ → Stands → Outputs
-statementOf w s = written (length w) (parts w s)
 
 -- What a boundary has depends only on its two enclosing readings, their counts and the weights between. (proofs/Has, `has-only`)
 abbrev pub EnclosedOnly : Type 0

@@ -55,3 +55,7 @@ written n ps =
     (filled n (map (λ (p : Part). p .from) ps))
     (filled n (map (λ (p : Part). p .to) ps))
     (filled n (map (λ (p : Part). p .wh) ps))
+
+-- the slices of a statement given, over these weights and what stands
+abbrev pub statementOf : List ℕ → Stands → Outputs
+statementOf w s = written (length w) (parts w s)

@@ -14,7 +14,7 @@ use Rattle.account.specs.Account.{Account, account, days, shown}
 use Rattle.account.specs.Refusals.{openNumber, readingNumber, cutNumber}
 use Rattle.profile.specs.Rows.{ifDone}
 use Rattle.account.specs.Calls.{cleared, readingPut, cutPut}
-use Rattle.statement.specs.Parts.{Outputs, outputs, parts, written}
+use Rattle.statement.specs.Parts.{Outputs, outputs, parts, statementOf}
 use Rattle.statement.specs.Call as statement
 use Rattle.statement.specs.Call.{statementNumber}
 use Rattle.customer.specs.Customer.{customerValue, customerRows, dailyAmount, amountRows}
@@ -59,7 +59,7 @@ abbrev lent : Account → Outputs
 lent a = outputs (replicate (days a) 9) (replicate (days a) 9) (replicate (days a) 9)
 
 abbrev stated : Account → Outputs
-stated a = statement.outputsAfter (statementNumber a (lent a)) (written (days a) (parts (a .weights) (shown a))) (lent a)
+stated a = statement.outputsAfter (statementNumber a (lent a)) (statementOf (a .weights) (shown a)) (lent a)
 
 -- m boundaries, one after the other from k on
 abbrev upFrom : ℕ → ℕ → List ℕ

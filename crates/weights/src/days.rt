@@ -21,15 +21,15 @@ pub(crate) fn clear(out: &mut [u32])
 }
 
 // Writes the weight of each day; the weekday is that of day 0.
-pub(crate) fn fill(number: u8, weekday: u8, means: &[i16], out: &mut [u32])
-    requires { ⌜ Ready number weekday (now means) × (length (now out) + 3 ≡ length (now means)) ⌝ }
-    ensures { λ r. ⌜ now (out .exit) ≡ weightsOf number weekday (now (means .entry)) ⌝ }
+pub(crate) fn fill(profile: u8, weekday: u8, means: &[i16], out: &mut [u32])
+    requires { ⌜ Ready profile weekday (now means) × (length (now out) + 3 ≡ length (now means)) ⌝ }
+    ensures { λ r. ⌜ now (out .exit) ≡ weightsOf profile weekday (now (means .entry)) ⌝ }
 {
     let mut k = 0;
     while k < out.len() {
         let t = temperature_of(means, k);
         let day = (weekday as usize + k) % 7;
-        out[k] = weight_at(number, day as u8, t);
+        out[k] = weight_at(profile, day as u8, t);
         k += 1;
     }
 }
@@ -42,11 +42,11 @@ fn temperature_of(means: &[i16], k: usize) -> i16
     crate::means::of_four(means[k + 3], means[k + 2], means[k + 1], means[k])
 }
 
-fn weight_at(number: u8, weekday: u8, t: i16) -> u32
-    requires { ⌜ (number < profileCount) × (weekday < 7) × (inRange t ≡ true) ⌝ }
-    ensures { λ r. ⌜ r ≡ weightOf number weekday t ⌝ }
+fn weight_at(profile: u8, weekday: u8, t: i16) -> u32
+    requires { ⌜ (profile < profileCount) × (weekday < 7) × (inRange t ≡ true) ⌝ }
+    ensures { λ r. ⌜ r ≡ weightOf profile weekday t ⌝ }
 {
-    let answer = profile::day_weight(number, weekday, t);
+    let answer = profile::day_weight(profile, weekday, t);
     match answer {
         WeightAnswer::Weight(w) => w,
         WeightAnswer::NoProfile => 0,

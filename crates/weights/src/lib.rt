@@ -62,8 +62,8 @@ pub fn choose<'a>(measured: &'a [i16], forecast: &'a [i16], n: usize) -> &'a [i1
 }
 
 // The weight of each day of a span, from its means, oldest first, and the weekday of day 0.
-pub fn weights(number: u8, weekday: u8, means: &[i16], out: &mut [u32]) -> WeightsAnswer
-    ensures { λ r. ⌜ WeightsMet number weekday (now (means .entry)) (now (out .entry)) r (now (out .exit)) (now (means .exit)) ⌝ }
+pub fn weights(profile: u8, weekday: u8, means: &[i16], out: &mut [u32]) -> WeightsAnswer
+    ensures { λ r. ⌜ WeightsMet profile weekday (now (means .entry)) (now (out .entry)) r (now (out .exit)) (now (means .exit)) ⌝ }
 {
     if means.len() < 4 {
         return WeightsAnswer::Unfit;
@@ -75,7 +75,7 @@ pub fn weights(number: u8, weekday: u8, means: &[i16], out: &mut [u32]) -> Weigh
     if out.len() != n {
         return WeightsAnswer::Unfit;
     }
-    if Profile::COUNT <= number {
+    if Profile::COUNT <= profile {
         days::clear(out);
         return WeightsAnswer::NoProfile;
     }
@@ -88,6 +88,6 @@ pub fn weights(number: u8, weekday: u8, means: &[i16], out: &mut [u32]) -> Weigh
         days::clear(out);
         return WeightsAnswer::OutOfRange(first);
     }
-    days::fill(number, weekday, means, out);
+    days::fill(profile, weekday, means, out);
     WeightsAnswer::Done
 }

@@ -57,7 +57,7 @@ returns-3 c =
     let weekday = c .before .before .before .if2 .left in
     let range = sym (inside (c .before .before)) ∙ c .before .if3 .taken in
     let e = simp (toZ-ofZ (q .fits .t)) at (c .weight-at .ensures) in
-    let known = whole-table (q .args .number) (q .args .weekday) (q .args .t) profile (omega arith) range in
+    let known = whole-table (q .args .profile) (q .args .weekday) (q .args .t) profile (omega arith) range in
     record {
       number = simp (lt-leb _ _ profile, le-ltb _ _ weekday, range);
       weight = simp (lt-leb _ _ profile, le-ltb _ _ weekday, range) e;

@@ -39,7 +39,7 @@ values-at-requires c κs = (
 returns-2 : tie.Need-returns-2
 returns-2 c =
     let q = c .before .before .before .before .before in
-    let k = q .args .number in
+    let k = q .args .profile in
     let t = q .args .t in
     let known = c .before .before .before .before .if1 .left in
     let test = lt-leb _ _ known in

@@ -13,7 +13,7 @@ use Rattle.weights.proofs.weights.Tie as tie
 fitting : (c : tie.Else3) → let a = c .before .before .before .before .args in Fit (a .means .now) (a .out .now)
 fitting c = record { four = c .before .before .if1 .left; span = c .before .if2 .left; room = c .if3 .left }
 
-ready : (c : tie.Else6) → let a = c .before .before .before .before .before .before .before .before .args in Ready (a .number) (a .weekday) (a .means .now)
+ready : (c : tie.Else6) → let a = c .before .before .before .before .before .before .before .before .args in Ready (a .profile) (a .weekday) (a .means .now)
 ready c =
     let m = c .before .before .before .before .before .before .before .before .args .means .now in
     let e = c .before .first-out .ensures in

@@ -6,21 +6,21 @@ use borrow.Author.Needs.{needs}
 use borrow.Author.Tests.{lt-leb, le-leb, eq-eqb, ne-eqb}
 use lib.Dec.{eqb}
 use Rattle.profile.specs.Limits.{spanMost}
-use Rattle.account.specs.Slices.{misfit}
+use Rattle.account.specs.Account.{unfitLengths}
 use Rattle.account.proofs.soundness.unfit.Statement.{statement}
 use Rattle.account.proofs.soundness.unfit.Tie as tie
 
 module _ (n m c : ℕ) where
-  short : n < 1 → true ≡ misfit n m c
+  short : n < 1 → true ≡ unfitLengths n m c
   short h = rw (lt-leb 1 n h)
 
-  long : 1 ≤ n → spanMost < n → true ≡ misfit n m c
+  long : 1 ≤ n → spanMost < n → true ≡ unfitLengths n m c
   long l h = rw (le-leb 1 n l, lt-leb n spanMost h)
 
-  marks-off : 1 ≤ n → n ≤ spanMost → (m ≡ n + 1 → ⊥) → true ≡ misfit n m c
+  marks-off : 1 ≤ n → n ≤ spanMost → (m ≡ n + 1 → ⊥) → true ≡ unfitLengths n m c
   marks-off l h e = rw (le-leb 1 n l, le-leb n spanMost h, ne-eqb m (n + 1) e)
 
-  counts-left : 1 ≤ n → n ≤ spanMost → m ≡ n + 1 → not (eqb c (n + 1)) ≡ misfit n m c
+  counts-left : 1 ≤ n → n ≤ spanMost → m ≡ n + 1 → not (eqb c (n + 1)) ≡ unfitLengths n m c
   counts-left l h e = rw (le-leb 1 n l, le-leb n spanMost h, eq-eqb m (n + 1) e)
 
 returns : tie.Need-returns

@@ -27,7 +27,7 @@ linear-at-requires : tie.Need-linear-at-requires
 linear-at-requires c κs = search needs
 
 small : (c : tie.After-row) → c .row .result .a < 2 ^ 24
-small c = rw (c .row .ensures) (profile-tested (c .before .args .number) (c .before .pre .0) .small)
+small c = rw (c .row .ensures) (profile-tested (c .before .args .profile) (c .before .pre .0) .small)
 
 shares : (c : tie.After-both-shares) → SharesMet (c .before .row .result) (c .before .before .args .t) (c .both-shares .result .low) (c .both-shares .result .high)
 shares c = simp (toZ-ofZ (c .before .before .fits .t)) at (c .both-shares .ensures)
@@ -47,7 +47,7 @@ high-small c = rw (shares c .high-is) (high-share-le (c .before .row .result) (c
 curve-down-requires : tie.Need-curve-down-requires
 curve-down-requires c κs = omega (arith, small (c .before .before), low-small (c .before))
 
-low : (c : tie.After-curve-down) → c .curve-down .result +ℤ c .before .linear-at .result ≡ valueLow (profileOf (c .before .before .before .before .args .number)) (c .before .before .before .before .args .t)
+low : (c : tie.After-curve-down) → c .curve-down .result +ℤ c .before .linear-at .result ≡ valueLow (profileOf (c .before .before .before .before .args .profile)) (c .before .before .before .before .args .t)
 low c =
     let t = c .before .before .before .before .args .t in
     low-sum (c .before .before .before .row .result) t (shares (c .before .before) .low-is) (c .curve-down .ensures) (rest (c .before))
@@ -57,12 +57,12 @@ add-t7 : tie.Need-add-t7
 add-t7 c =
     let q = c .before .before .before .before in
     simp (kept (c .curve-down .result) (c .curve-down .ok), kept (c .before .linear-at .result) (c .before .linear-at .ok), low c)
-    (low-fits (q .args .number) (q .args .t) (q .pre .0) (q .pre .1))
+    (low-fits (q .args .profile) (q .args .t) (q .pre .0) (q .pre .1))
 
 curve-up-requires : tie.Need-curve-up-requires
 curve-up-requires c κs = omega (arith, small (c .before .before .before), high-small (c .before .before))
 
-high : (c : tie.After-curve-up) → c .curve-up .result +ℤ c .before .before .linear-at .result ≡ valueHigh (profileOf (c .before .before .before .before .before .args .number)) (c .before .before .before .before .before .args .t)
+high : (c : tie.After-curve-up) → c .curve-up .result +ℤ c .before .before .linear-at .result ≡ valueHigh (profileOf (c .before .before .before .before .before .args .profile)) (c .before .before .before .before .before .args .t)
 high c =
     let t = c .before .before .before .before .before .args .t in
     high-sum (c .before .before .before .before .row .result) t (shares (c .before .before .before) .high-is) (c .curve-up .ensures) (rest (c .before .before))
@@ -72,7 +72,7 @@ add-t9 : tie.Need-add-t9
 add-t9 c =
     let q = c .before .before .before .before .before in
     simp (kept (c .curve-up .result) (c .curve-up .ok), kept (c .before .before .linear-at .result) (c .before .before .linear-at .ok), high c)
-    (high-fits (q .args .number) (q .args .t) (q .pre .0) (q .pre .1))
+    (high-fits (q .args .profile) (q .args .t) (q .pre .0) (q .pre .1))
 
 returns : tie.Need-returns
 returns c =
@@ -83,8 +83,8 @@ returns c =
       kept (c .before .before .linear-at .result) (c .before .before .linear-at .ok),
     )
     (record {
-      low-is = simp (low (c .before)) (toZ-ofZ (low-fits (q .args .number) (q .args .t) (q .pre .0) (q .pre .1)));
-      high-is = simp (high c) (toZ-ofZ (high-fits (q .args .number) (q .args .t) (q .pre .0) (q .pre .1)));
+      low-is = simp (low (c .before)) (toZ-ofZ (low-fits (q .args .profile) (q .args .t) (q .pre .0) (q .pre .1)));
+      high-is = simp (high c) (toZ-ofZ (high-fits (q .args .profile) (q .args .t) (q .pre .0) (q .pre .1)));
     })
 
 pub values-at-spec : {M : Type 1} → statement M

@@ -33,14 +33,14 @@ curve-down-requires : tie.Need-curve-down-requires
 unfolding one
 curve-down-requires c κs =
     let q = c .before .before in (
-      rw (c .before .row .ensures) (profile-tested (q .args .number) (q .pre .0) .small),
+      rw (c .before .row .ensures) (profile-tested (q .args .profile) (q .pre .0) .small),
       rw (share c) (low-share-le (c .before .row .result) (q .args .t)),
     )
 
 linear-at-requires : tie.Need-linear-at-requires
 linear-at-requires c κs = search needs
 
-low : (c : tie.After-linear-at) → c .before .curve-down .result +ℤ c .linear-at .result ≡ valueLow (profileOf (c .before .before .before .before .args .number)) (c .before .before .before .before .args .t)
+low : (c : tie.After-linear-at) → c .before .curve-down .result +ℤ c .linear-at .result ≡ valueLow (profileOf (c .before .before .before .before .args .profile)) (c .before .before .before .before .args .t)
 low c =
     let q = c .before .before .before .before in
     low-sum (c .before .before .before .row .result) (q .args .t) (share (c .before .before)) (c .before .curve-down .ensures)
@@ -52,7 +52,7 @@ add-low c =
     let q = c .before .before .before .before in
     simp
     (kept (c .before .curve-down .result) (c .before .curve-down .ok), kept (c .linear-at .result) (c .linear-at .ok), low c)
-    (low-fits (q .args .number) (q .args .t) (q .pre .0) (q .pre .2))
+    (low-fits (q .args .profile) (q .args .t) (q .pre .0) (q .pre .2))
 
 mul-factor : tie.Need-mul-factor
 mul-factor c = search needs
@@ -64,17 +64,17 @@ cast-factor : tie.Need-cast-factor
 cast-factor c = search needs
 
 -- what is cast and multiplied: the low value and the factor
-read : (c : tie.After-linear-at) → toZ w64 (ofZ w64 (toZ w64 (ofZ w64 (c .before .curve-down .result)) +ℤ toZ w64 (ofZ w64 (c .linear-at .result)))) ≡ valueLow (profileOf (c .before .before .before .before .args .number)) (c .before .before .before .before .args .t)
+read : (c : tie.After-linear-at) → toZ w64 (ofZ w64 (toZ w64 (ofZ w64 (c .before .curve-down .result)) +ℤ toZ w64 (ofZ w64 (c .linear-at .result)))) ≡ valueLow (profileOf (c .before .before .before .before .args .profile)) (c .before .before .before .before .args .t)
 read c =
     let q = c .before .before .before .before in
     simp
     (kept (c .before .curve-down .result) (c .before .curve-down .ok), kept (c .linear-at .result) (c .linear-at .ok), low c)
-    (toZ-ofZ (low-fits (q .args .number) (q .args .t) (q .pre .0) (q .pre .2)))
+    (toZ-ofZ (low-fits (q .args .profile) (q .args .t) (q .pre .0) (q .pre .2)))
 
 cast-result : tie.Need-cast-result
 cast-result c =
     let q = c .before .before .before .before .before in
-    let k = q .args .number in
+    let k = q .args .profile in
     let t = q .args .t in
     simp (read (c .before)) (
       yes-nonNeg (low-natural k t (q .pre .0) (q .pre .2)),
@@ -84,17 +84,17 @@ cast-result c =
 abbrev product : tie.After-factor → ℕ
 product c =
     let q = c .before .before .before .before .before in
-    natAbs (valueLow (profileOf (q .args .number)) (q .args .t)) * factorOf (q .args .number) (q .args .weekday)
+    natAbs (valueLow (profileOf (q .args .profile)) (q .args .t)) * factorOf (q .args .profile) (q .args .weekday)
 
-weight : (c : tie.After-factor) → product c / 10_000_000 ≡ weightOf (c .before .before .before .before .before .args .number) (c .before .before .before .before .before .args .weekday) (c .before .before .before .before .before .args .t)
+weight : (c : tie.After-factor) → product c / 10_000_000 ≡ weightOf (c .before .before .before .before .before .args .profile) (c .before .before .before .before .before .args .weekday) (c .before .before .before .before .before .args .t)
 weight c =
     let q = c .before .before .before .before .before in
-    weight-quotient (q .args .number) (q .args .t) (q .pre .0) (q .pre .2) (q .args .weekday)
+    weight-quotient (q .args .profile) (q .args .t) (q .pre .0) (q .pre .2) (q .args .weekday)
 
 small : (c : tie.After-factor) → product c / 10_000_000 ≤ 6_999_999
 small c =
     let q = c .before .before .before .before .before in
-    rw (weight c) (whole-table (q .args .number) (q .args .weekday) (q .args .t) (q .pre .0) (q .pre .1) (q .pre .2) .2)
+    rw (weight c) (whole-table (q .args .profile) (q .args .weekday) (q .args .t) (q .pre .0) (q .pre .1) (q .pre .2) .2)
 
 mul-result : tie.Need-mul-result
 mul-result c =

@@ -14,7 +14,7 @@ array-copy-out-result c = search needs
 
 returns : tie.Need-returns
 unfolding profileOf
-returns c = getD-any table (c .before .args .number) _ noProfile (c .before .pre)
+returns c = getD-any table (c .before .args .profile) _ noProfile (c .before .pre)
 
 pub row-spec : {M : Type 1} → statement M
 row-spec = tie.close (tie.spec mul-result array-copy-out-result returns)

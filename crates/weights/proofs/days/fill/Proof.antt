@@ -60,7 +60,7 @@ loop-again c =
     let a = c .before .before .before in
     let day = (a .before .before .args .weekday + a .loop .k) % 7 in
     step _ (a .loop .inv) (omega arith)
-    (c .weight-at .ensures ∙ ap (weightOf (a .before .before .args .number) day) (as-given (c .before) ∙ c .before .temperature-of .ensures .0))
+    (c .weight-at .ensures ∙ ap (weightOf (a .before .before .args .profile) day) (as-given (c .before) ∙ c .before .temperature-of .ensures .0))
 
 same-length : tie.Need-same-length Inv-loop μ-loop
 same-length c = c .before .loop .inv .long
@@ -68,7 +68,7 @@ same-length c = c .before .loop .inv .long
 returns : tie.Need-returns Inv-loop μ-loop
 returns c =
     let s = c .before .before .before in
-    let number = s .args .number in
+    let number = s .args .profile in
     let weekday = s .args .weekday in
     let means = s .args .means .now in
     done (c .before .loop .inv) (omega arith) (weightsOf number weekday means)

@@ -42,10 +42,10 @@ accepted k w t r hk hw ht m =
     (simp (e, f, ht) at (m .number), simp (e, f, ht) at (m .weight))
 
 met : (c : tie.After-day-weight) → let a = c .before .args in
-    (weightNumber (c .day-weight .result) ≡ 0) × (weightGiven (c .day-weight .result) ≡ weightOf (a .number) (a .weekday) (a .t))
+    (weightNumber (c .day-weight .result) ≡ 0) × (weightGiven (c .day-weight .result) ≡ weightOf (a .profile) (a .weekday) (a .t))
 met c =
     let s = c .before in
-    accepted (s .args .number) (s .args .weekday) (s .args .t) (c .day-weight .result) (s .pre .0) (s .pre .1) (s .pre .2)
+    accepted (s .args .profile) (s .args .weekday) (s .args .t) (c .day-weight .result) (s .pre .0) (s .pre .1) (s .pre .2)
     (rw (toZ-ofZ (s .fits .t)) at (c .day-weight .ensures))
 
 returns : tie.Need-returns
