@@ -1,4 +1,4 @@
--- What the questions about boundaries answer (Account and its calls): every, some, first, last, how many, never falling. Assumes nothing.
+-- What the questions about boundaries answer (Account and its calls): everywhere, somewhere, first, last, how many, never falling. Assumes nothing.
 use mathlib.Core.Path.{_≡_, refl, sym, subst}
 use mathlib.Core.Bool.{Bool, true, false, cond, _&&_, _||_, and-false, or-true}
 use mathlib.Core.Logic.{⊎-elim}
@@ -6,7 +6,7 @@ use Prim.Native.Nat.{ℕ, zero, suc, _≤_, _<_}
 use native.Mathlib.Nat.{not-suc-le-zero, eq-or-lt-of-le, le-of-suc-le-suc}
 use native.Mathlib.Omega.{arith}
 use borrow.Author.Tests.{leb-true}
-use Rattle.account.specs.Below.{every, some, howMany, first, last}
+use Rattle.account.specs.Below.{everywhere, somewhere, howMany, first, last}
 use Rattle.account.specs.Stands.{Readings, neverFalling}
 
 -- a test that is true is not false
@@ -42,18 +42,18 @@ pub record IsLast (p : ℕ → Bool) (m k : ℕ) : Type 0 where
   pub none-after : (j : ℕ) → k < j → j < m → p j ≡ false
 
 module _ (p : ℕ → Bool) where
-  pub every-at : (m : ℕ) → every p m ≡ true → (k : ℕ) → k < m → p k ≡ true
-  unfolding every
+  pub every-at : (m : ℕ) → everywhere p m ≡ true → (k : ℕ) → k < m → p k ≡ true
+  unfolding everywhere
   every-at zero h k lt = absurd (omega arith)
-  every-at (suc m) h k lt = let b = both (every p m) (p m) h in below-suc (λ j. p j ≡ true) m (every-at m (b .0)) (b .1) k lt
+  every-at (suc m) h k lt = let b = both (everywhere p m) (p m) h in below-suc (λ j. p j ≡ true) m (every-at m (b .0)) (b .1) k lt
 
-  pub none-at : (m : ℕ) → some p m ≡ false → (k : ℕ) → k < m → p k ≡ false
-  unfolding some
+  pub none-at : (m : ℕ) → somewhere p m ≡ false → (k : ℕ) → k < m → p k ≡ false
+  unfolding somewhere
   none-at zero h k lt = absurd (omega arith)
-  none-at (suc m) h k lt = let b = neither (some p m) (p m) h in below-suc (λ j. p j ≡ false) m (none-at m (b .0)) (b .1) k lt
+  none-at (suc m) h k lt = let b = neither (somewhere p m) (p m) h in below-suc (λ j. p j ≡ false) m (none-at m (b .0)) (b .1) k lt
 
-  pub none-is : (m : ℕ) → ((k : ℕ) → k < m → p k ≡ false) → some p m ≡ false
-  unfolding some
+  pub none-is : (m : ℕ) → ((k : ℕ) → k < m → p k ≡ false) → somewhere p m ≡ false
+  unfolding somewhere
   none-is zero all = refl
   none-is (suc m) all = rw (none-is m (λ k h. all k (omega arith)), all m (omega arith)) refl
 
@@ -67,13 +67,13 @@ module _ (p : ℕ → Bool) where
       go rest true e = (m, omega arith, e)
       go rest false e = let r = rest (omega (arith, rw e at h)) in (r .0, omega (arith, r .1), r .2)
 
-  pub first-some : (m : ℕ) → some p m ≡ true → IsFirst p m (first p m)
-  unfolding first some
+  pub first-some : (m : ℕ) → somewhere p m ≡ true → IsFirst p m (first p m)
+  unfolding first somewhere
   first-some zero h = absurd (clash h refl)
-  first-some (suc m) h = go (λ e. first-some m e) (some p m) refl
+  first-some (suc m) h = go (λ e. first-some m e) (somewhere p m) refl
     where
-      go : (some p m ≡ true → IsFirst p m (first p m)) → (b : Bool) → some p m ≡ b →
-          IsFirst p (suc m) (cond (some p m) (first p m) (cond (p m) m (suc m)))
+      go : (somewhere p m ≡ true → IsFirst p m (first p m)) → (b : Bool) → somewhere p m ≡ b →
+          IsFirst p (suc m) (cond (somewhere p m) (first p m) (cond (p m) m (suc m)))
       go rest true e = let r = rest e in rw e (record { below = omega arith; holds = r .holds; none-before = r .none-before })
       go rest false e =
           let here : p m ≡ true = rw e at h in
@@ -81,9 +81,9 @@ module _ (p : ℕ → Bool) where
 
   -- where p holds somewhere below m, first and last find it
   pub first-found : (m k : ℕ) → k < m → p k ≡ true → IsFirst p m (first p m)
-  first-found m k lt h = go (some p m) refl
+  first-found m k lt h = go (somewhere p m) refl
     where
-      go : (b : Bool) → some p m ≡ b → IsFirst p m (first p m)
+      go : (b : Bool) → somewhere p m ≡ b → IsFirst p m (first p m)
       go true e = first-some m e
       go false e = absurd (clash h (none-at m e k lt))
 
@@ -121,46 +121,46 @@ module _ (p : ℕ → Bool) where
       let other = last-found m k (is .below) (is .holds) in
       omega (arith, last-most other (is .below) (is .holds), last-most is (other .below) (other .holds))
 
-  pub every-zero : every p 0 ≡ true
-  unfolding every
+  pub every-zero : everywhere p 0 ≡ true
+  unfolding everywhere
   every-zero = refl
 
-  pub every-more : (m : ℕ) → every p m ≡ true → p m ≡ true → every p (suc m) ≡ true
-  unfolding every
+  pub every-more : (m : ℕ) → everywhere p m ≡ true → p m ≡ true → everywhere p (suc m) ≡ true
+  unfolding everywhere
   every-more m e h = rw (e, h)
 
-  pub every-fails : (m k : ℕ) → k < m → p k ≡ false → every p m ≡ false
-  unfolding every
+  pub every-fails : (m k : ℕ) → k < m → p k ≡ false → everywhere p m ≡ false
+  unfolding everywhere
   every-fails zero k l h = absurd (not-suc-le-zero l)
   every-fails (suc m) k l h =
       ⊎-elim
-      (λ q. rw (← q, h) (and-false (every p k)))
+      (λ q. rw (← q, h) (and-false (everywhere p k)))
       (λ s. rw (every-fails m k s h))
       (eq-or-lt-of-le (le-of-suc-le-suc l))
 
-  pub some-zero : some p 0 ≡ false
-  unfolding some
+  pub some-zero : somewhere p 0 ≡ false
+  unfolding somewhere
   some-zero = refl
 
-  pub some-none : (m : ℕ) → some p m ≡ false → p m ≡ false → some p (suc m) ≡ false
-  unfolding some
+  pub some-none : (m : ℕ) → somewhere p m ≡ false → p m ≡ false → somewhere p (suc m) ≡ false
+  unfolding somewhere
   some-none m e h = rw (e, h)
 
-  pub some-at : (m k : ℕ) → k < m → p k ≡ true → some p m ≡ true
-  unfolding some
+  pub some-at : (m k : ℕ) → k < m → p k ≡ true → somewhere p m ≡ true
+  unfolding somewhere
   some-at zero k l h = absurd (not-suc-le-zero l)
   some-at (suc m) k l h =
       ⊎-elim
-      (λ q. rw (← q, h) (or-true (some p k)))
+      (λ q. rw (← q, h) (or-true (somewhere p k)))
       (λ s. rw (some-at m k s h))
       (eq-or-lt-of-le (le-of-suc-le-suc l))
 
-  pub first-none : (m : ℕ) → some p m ≡ false → first p m ≡ m
-  unfolding some first
+  pub first-none : (m : ℕ) → somewhere p m ≡ false → first p m ≡ m
+  unfolding somewhere first
   first-none zero e = refl
-  first-none (suc m) e = rw (neither (some p m) (p m) e .0, neither (some p m) (p m) e .1)
+  first-none (suc m) e = rw (neither (somewhere p m) (p m) e .0, neither (somewhere p m) (p m) e .1)
 
-  pub first-at : (m k : ℕ) → k < m → some p k ≡ false → p k ≡ true → first p m ≡ k
+  pub first-at : (m k : ℕ) → k < m → somewhere p k ≡ false → p k ≡ true → first p m ≡ k
   first-at m k l e h = first-is (record { below = l; holds = h; none-before = none-at k e })
 
   pub last-zero : last p 0 ≡ 0
@@ -176,43 +176,43 @@ module _ (p : ℕ → Bool) where
   last-below e h = rw (e, h)
 
   -- no p below k where there is none below a later boundary
-  pub some-less : (m k : ℕ) → k ≤ m → some p m ≡ false → some p k ≡ false
-  unfolding some
+  pub some-less : (m k : ℕ) → k ≤ m → somewhere p m ≡ false → somewhere p k ≡ false
+  unfolding somewhere
   some-less zero k l e =
       let none : k ≡ 0 = omega arith in
-      subst (λ (j : ℕ). some p j ≡ false) (sym none) e
+      subst (λ (j : ℕ). somewhere p j ≡ false) (sym none) e
   some-less (suc m) k l e =
       ⊎-elim
-      (λ q. subst (λ (j : ℕ). some p j ≡ false) (sym q) e)
-      (λ s. some-less m k (le-of-suc-le-suc s) (neither (some p m) (p m) e .0))
+      (λ q. subst (λ (j : ℕ). somewhere p j ≡ false) (sym q) e)
+      (λ s. some-less m k (le-of-suc-le-suc s) (neither (somewhere p m) (p m) e .0))
       (eq-or-lt-of-le l)
 
-  first-by : (m k : ℕ) (b c : Bool) → some p m ≡ b → p m ≡ c → (k ≤ first p m → some p k ≡ false) → k ≤ cond b (first p m) (cond c m (suc m)) → some p k ≡ false
-  unfolding some
+  first-by : (m k : ℕ) (b c : Bool) → somewhere p m ≡ b → p m ≡ c → (k ≤ first p m → somewhere p k ≡ false) → k ≤ cond b (first p m) (cond c m (suc m)) → somewhere p k ≡ false
+  unfolding somewhere
   first-by m k true c e h below l = below l
   first-by m k false true e h below l = some-less m k l e
   first-by m k false false e h below l = some-less (suc m) k l (rw (e, h))
 
   -- there is none before the first, and it is one
-  pub first-below : (m k : ℕ) → k ≤ first p m → some p k ≡ false
+  pub first-below : (m k : ℕ) → k ≤ first p m → somewhere p k ≡ false
   unfolding first
   first-below zero k l = some-less 0 k l (some-zero)
-  first-below (suc m) k l = first-by m k (some p m) (p m) refl refl (first-below m k) l
+  first-below (suc m) k l = first-by m k (somewhere p m) (p m) refl refl (first-below m k) l
 
-  some-first : (m : ℕ) → some p m ≡ true → p (first p m) ≡ true
-  unfolding some first
+  some-first : (m : ℕ) → somewhere p m ≡ true → p (first p m) ≡ true
+  unfolding somewhere first
   some-first zero e = cc
-  some-first (suc m) e = go (some p m) (p m) refl refl (some-first m)
+  some-first (suc m) e = go (somewhere p m) (p m) refl refl (some-first m)
     where
-      go : (b c : Bool) → some p m ≡ b → p m ≡ c → (some p m ≡ true → p (first p m) ≡ true) → p (cond b (first p m) (cond c m (suc m))) ≡ true
+      go : (b c : Bool) → somewhere p m ≡ b → p m ≡ c → (somewhere p m ≡ true → p (first p m) ≡ true) → p (cond b (first p m) (cond c m (suc m))) ≡ true
       go true c f h holds = holds f
       go false true f h holds = h
       go false false f h holds = cc
 
   pub first-holds : (m : ℕ) → first p m < m → p (first p m) ≡ true
-  first-holds m l = some-first m (go (some p m) refl)
+  first-holds m l = some-first m (go (somewhere p m) refl)
     where
-      go : (b : Bool) → some p m ≡ b → some p m ≡ true
+      go : (b : Bool) → somewhere p m ≡ b → somewhere p m ≡ true
       go true e = e
       go false e = let end = first-none m e in absurd (omega arith)
 
@@ -243,11 +243,11 @@ module _ (p : ℕ → Bool) where
   last-at m k l e none = last-is (record { below = l; holds = e; none-after = none })
 
 -- a reading has at least what the reading before it has
-pub rising : (r : Readings) (m : ℕ) → neverFalling r m ≡ true → (k : ℕ) → k < m → r .at k ≡ true → some (r .at) k ≡ true →
+pub rising : (r : Readings) (m : ℕ) → neverFalling r m ≡ true → (k : ℕ) → k < m → r .at k ≡ true → somewhere (r .at) k ≡ true →
     r .count (last (r .at) k) ≤ r .count k
 unfolding neverFalling
 rising r zero h k lt at earlier = absurd (omega arith)
 rising r (suc m) h k lt at earlier =
     let b = both (neverFalling r m) _ h in
-    below-suc (λ j. r .at j ≡ true → some (r .at) j ≡ true → r .count (last (r .at) j) ≤ r .count j) m (rising r m (b .0))
+    below-suc (λ j. r .at j ≡ true → somewhere (r .at) j ≡ true → r .count (last (r .at) j) ≤ r .count j) m (rising r m (b .0))
     (λ here before. leb-true _ _ (simp (here, before) at (b .1))) k lt at earlier

@@ -7,7 +7,7 @@ use lib.Dec.{leb, ltb, eqb, lit<}
 use lib.ListN.{length, getD, set, length-set, length-replicate, List·getD-eq-default}
 use borrow.Author.Tests.{le-leb, ltb-false, not-false}
 use native.Mathlib.Omega.{arith}
-use Rattle.account.specs.Below.{every}
+use Rattle.account.specs.Below.{everywhere}
 use Rattle.account.specs.Stands.{Stands, nothing, put, withReading, withoutReading, lastLessFirst}
 use Rattle.account.specs.Account.{Account, account, shown, days, unfit, sound, goodWeights, goodMarks, zeroCounts, energyMost, markOf}
 use Rattle.account.specs.Refusals.{outOfOrder, tooMuch, openNumber, readingRows, withdrawRows, cutRows, uncutRows}
@@ -47,7 +47,7 @@ small-mark true false = refl
 small-mark true true = refl
 
 module _ (a : Account) (f : Checked a) (k : ℕ) (inside : k < length (a .marks)) where
-  good-marks : (m : ℕ) → leb m 3 ≡ true → every (λ j. leb (getD (set (a .marks) k m) j 0) 3) (suc (days a)) ≡ true
+  good-marks : (m : ℕ) → leb m 3 ≡ true → everywhere (λ j. leb (getD (set (a .marks) k m) j 0) 3) (suc (days a)) ≡ true
   unfolding goodMarks
   good-marks m small =
       let before = every-at (λ j. leb (getD (a .marks) j 0) 3) (suc (days a)) (sound-parts a (f .sound) .marks) in

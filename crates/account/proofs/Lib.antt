@@ -1,3 +1,4 @@
+-- The laws that the proofs of crate account share, and its theorems.
 pub mod Below
 pub mod Clear
 pub mod Order

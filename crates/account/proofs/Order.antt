@@ -6,7 +6,7 @@ use mathlib.Core.Logic.{⊎-elim}
 use mathlib.Core.Bool.{Bool, true, false, cond, _||_, and-false, or-true, or-false}
 use borrow.Author.Tests.{le-leb, lt-leb}
 use lib.Dec.{leb, eqb, leb·zero}
-use Rattle.account.specs.Below.{some, last}
+use Rattle.account.specs.Below.{somewhere, last}
 use Rattle.account.specs.Stands.{Readings, neverFalling}
 
 -- "zero without a reading", at k
@@ -19,19 +19,19 @@ carried r zero = 0
 carried r (suc m) = cond (r .at m) (r .count m) (carried r m)
 
 module _ (r : Readings) where
-  carried-is : (m : ℕ) → carried r m ≡ cond (some (r .at) m) (r .count (last (r .at) m)) 0
-  unfolding some last
+  carried-is : (m : ℕ) → carried r m ≡ cond (somewhere (r .at) m) (r .count (last (r .at) m)) 0
+  unfolding somewhere last
   carried-is zero = refl
   carried-is (suc m) = go (carried-is m) (r .at m)
     where
-      go : carried r m ≡ cond (some (r .at) m) (r .count (last (r .at) m)) 0 → (b : Bool) →
-          cond b (r .count m) (carried r m) ≡ cond (some (r .at) m || b) (r .count (cond b m (last (r .at) m))) 0
+      go : carried r m ≡ cond (somewhere (r .at) m) (r .count (last (r .at) m)) 0 → (b : Bool) →
+          cond b (r .count m) (carried r m) ≡ cond (somewhere (r .at) m || b) (r .count (cond b m (last (r .at) m))) 0
       go rest true = rw or-true
       go rest false = rw or-false rest
 
   -- at a reading, the test with the count carried is that of `neverFalling`
-  same-test : (k : ℕ) → cond (some (r .at) k) (leb (r .count (last (r .at) k)) (r .count k)) true ≡ leb (carried r k) (r .count k)
-  same-test k = rw (carried-is k) (go (some (r .at) k))
+  same-test : (k : ℕ) → cond (somewhere (r .at) k) (leb (r .count (last (r .at) k)) (r .count k)) true ≡ leb (carried r k) (r .count k)
+  same-test k = rw (carried-is k) (go (somewhere (r .at) k))
     where
       go : (b : Bool) → cond b (leb (r .count (last (r .at) k)) (r .count k)) true ≡ leb (cond b (r .count (last (r .at) k)) 0) (r .count k)
       go true = refl

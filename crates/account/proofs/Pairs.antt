@@ -8,7 +8,7 @@ use native.Mathlib.Nat.{eq-or-lt-of-le}
 use native.Mathlib.Omega.{arith}
 use lib.Dec.{leb, ltb, eqb}
 use borrow.Author.Tests.{le-leb, eqb-true, eqb-false, lt-ltb, ltb-false}
-use Rattle.account.specs.Below.{some, last}
+use Rattle.account.specs.Below.{somewhere, last}
 use Rattle.account.specs.Stands.{Readings, withReading, neverFalling, lastLessFirst, firstReading, lastReading}
 use Rattle.account.specs.Refusals.{outOfOrder}
 use Rattle.account.proofs.Below.{clash, neither, none-at, first-found, last-found, first-least, last-most, last-less, last-holds, some-at, first-some, rising}
@@ -29,16 +29,16 @@ pairs r m h (suc i) le j k ordered lt at-j at-k = ⊎-elim (λ e. rw e (omega ar
 
 -- the last that is asked about, where it is not one, is 0
 last-none : (p : ℕ → Bool) (m : ℕ) → p (last p m) ≡ false → last p m ≡ 0
-last-none p m h = let found : 0 < last p m → ⊥ = λ some. clash (last-holds p m some) h in omega arith
+last-none p m h = let found : 0 < last p m → ⊥ = λ somewhere. clash (last-holds p m somewhere) h in omega arith
 
 -- the other way
 pub neighbours : (r : Readings) (m : ℕ) → Rising r m → neverFalling r m ≡ true
 unfolding neverFalling
 neighbours r zero rises = refl
 neighbours r (suc m) rises =
-    rw (neighbours r m (λ j k le lt. rises j k le (omega arith))) (go (r .at m) refl (some (r .at) m) refl)
+    rw (neighbours r m (λ j k le lt. rises j k le (omega arith))) (go (r .at m) refl (somewhere (r .at) m) refl)
   where
-    go : (b : Bool) → r .at m ≡ b → (c : Bool) → some (r .at) m ≡ c → cond (b && c) (leb (r .count (last (r .at) m)) (r .count m)) true ≡ true
+    go : (b : Bool) → r .at m ≡ b → (c : Bool) → somewhere (r .at) m ≡ c → cond (b && c) (leb (r .count (last (r .at) m)) (r .count m)) true ≡ true
     go true e true f =
         let earlier = first-some (r .at) m f in
         let l = last-found (r .at) m _ (earlier .below) (earlier .holds) in
@@ -82,7 +82,7 @@ abbrev over : Readings → ℕ → ℕ → ℕ → Bool
 over r k v i = ltb k i && (r .at i && ltb (r .count i) v)
 
 module _ (n : ℕ) (r : Readings) (k v : ℕ) (fits : outOfOrder n r k v ≡ false) where
-  neither-row : (some (under r k v) (suc n) ≡ false) × (some (over r k v) (suc n) ≡ false)
+  neither-row : (somewhere (under r k v) (suc n) ≡ false) × (somewhere (over r k v) (suc n) ≡ false)
   unfolding outOfOrder
   neither-row = neither _ _ fits
 

@@ -5,7 +5,7 @@ use mathlib.Core.Bool.{true, false, and-false}
 use borrow.Author.Tests.{le-leb, lt-leb, eq-eqb, ne-eqb}
 use lib.Dec.{leb}
 use lib.ListN.{getD}
-use Rattle.account.specs.Below.{every}
+use Rattle.account.specs.Below.{everywhere}
 use Rattle.account.specs.Stands.{neverFalling}
 use Rattle.account.specs.Account.{Account, days, shown, marksReading, goodMarks, zeroCounts}
 use Rattle.account.specs.Slices.{goodBoundaries}
@@ -13,8 +13,8 @@ use Rattle.account.proofs.Below.{every-zero, every-more, every-fails}
 use Rattle.account.proofs.Order.{zeroAt, carried, rising, passing, falling, falls}
 
 pub record Passed (a : Account) (k last : ℕ) : Type 0 where
-  pub marks : every (λ j. leb (getD (a .marks) j 0) 3) k ≡ true
-  pub zeros : every (zeroAt (shown a .readings)) k ≡ true
+  pub marks : everywhere (λ j. leb (getD (a .marks) j 0) 3) k ≡ true
+  pub zeros : everywhere (zeroAt (shown a .readings)) k ≡ true
   pub order : neverFalling (shown a .readings) k ≡ true
   pub carries : last ≡ carried (shown a .readings) k
 

@@ -6,7 +6,7 @@ use mathlib.Core.Bool.{Bool, true, false, cond, _||_}
 use native.Mathlib.Omega.{arith}
 use lib.Dec.{eqb}
 use borrow.Author.Tests.{eqb-true, ltb-false}
-use Rattle.account.specs.Below.{every}
+use Rattle.account.specs.Below.{everywhere}
 use Rattle.account.specs.Stands.{Readings, nothing, put, withReading, withoutReading, neverFalling, lastLessFirst}
 use Rattle.account.specs.Account.{energyMost}
 use Rattle.account.specs.Refusals.{outOfOrder, tooMuch}
@@ -15,23 +15,23 @@ use Rattle.account.proofs.Order.{zeroAt}
 use Rattle.account.proofs.Pairs.{pairs, neighbours, Within, fewer-rise, fewer-less, more-rise}
 
 pub record SoundReadings (n : ℕ) (r : Readings) : Type 0 where
-  pub zeros : every (zeroAt r) (suc n) ≡ true
+  pub zeros : everywhere (zeroAt r) (suc n) ≡ true
   pub order : neverFalling r (suc n) ≡ true
   pub energy : lastLessFirst n r ≤ energyMost
 
 -- what holds at each boundary below m holds at every one
-pub every-is : (p : ℕ → Bool) (m : ℕ) → ((k : ℕ) → k < m → p k ≡ true) → every p m ≡ true
-unfolding every
+pub every-is : (p : ℕ → Bool) (m : ℕ) → ((k : ℕ) → k < m → p k ≡ true) → everywhere p m ≡ true
+unfolding everywhere
 every-is p zero all = refl
 every-is p (suc m) all = rw (every-is p m (λ k h. all k (omega arith)), all m (omega arith))
 
 module _ (n : ℕ) (r : Readings) where
-  zero-count : every (zeroAt r) (suc n) ≡ true → (k : ℕ) → k < suc n → r .at k ≡ false → r .count k ≡ 0
+  zero-count : everywhere (zeroAt r) (suc n) ≡ true → (k : ℕ) → k < suc n → r .at k ≡ false → r .count k ≡ 0
   zero-count zeros k lt none = eqb-true (r .count k) 0 (rw none at (every-at (zeroAt r) (suc n) zeros k lt))
 
 module _ (n : ℕ) (r : Readings) (good : SoundReadings n r) (k : ℕ) where
   zeros-put : (t : Bool) (v : ℕ) → (t || eqb v 0) ≡ true →
-      every (λ j. put (r .at) k t j || eqb (put (r .count) k v j) 0) (suc n) ≡ true
+      everywhere (λ j. put (r .at) k t j || eqb (put (r .count) k v j) 0) (suc n) ≡ true
   zeros-put t v here = every-is _ _ λ j lt. go (eqb j k) j (every-at (zeroAt r) (suc n) (good .zeros) j lt)
     where
       go : (b : Bool) (j : ℕ) → zeroAt r j ≡ true → (cond b t (r .at j) || eqb (cond b v (r .count j)) 0) ≡ true

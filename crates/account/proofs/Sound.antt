@@ -6,9 +6,9 @@ use borrow.Author.Tests.{leb-true, eqb-true, not-false}
 use lib.Dec.{leb, eqb}
 use mathlib.Core.List.{List}
 use lib.ListN.{length, getD}
-use Rattle.profile.specs.Limits.{weightLeast, weightMost, spanMost}
+use Rattle.profile.specs.Limits.{weightLeast, weightMost, spanMost, badSpan}
 use Rattle.account.specs.Stands.{neverFalling, lastLessFirst}
-use Rattle.account.specs.Account.{Account, days, shown, badSpan, unfit, sound, goodWeights, goodMarks, zeroCounts, energyMost}
+use Rattle.account.specs.Account.{Account, days, shown, unfit, sound, goodWeights, goodMarks, zeroCounts, energyMost}
 use Rattle.account.specs.Slices.{Fit}
 use Rattle.account.proofs.Below.{both, neither, every-at}
 

@@ -5,7 +5,7 @@ use native.Mathlib.Omega.{arith}
 use mathlib.Core.Path.{_≡_, refl, ap₂, _∙_}
 use mathlib.Core.Bool.{Bool, true, _||_}
 use borrow.Author.Tests.{eq-eqb, ne-eqb}
-use Rattle.account.specs.Below.{some, first, last}
+use Rattle.account.specs.Below.{somewhere, first, last}
 use Rattle.account.specs.Stands.{put}
 use Rattle.account.proofs.Below.{first-at, first-below, first-holds, last-at, last-less, last-holds, last-above}
 
@@ -16,8 +16,8 @@ pub put-other {ℓ} : {A : Type ℓ} (f : ℕ → A) (k : ℕ) (x : A) (j : ℕ)
 put-other f k x j h = rw (ne-eqb j k h)
 
 module _ (p : ℕ → Bool) (k m : ℕ) (within : k < m) where
-  some-with : (j : ℕ) → j ≤ k → some (put p k true) j ≡ some p j
-  unfolding some
+  some-with : (j : ℕ) → j ≤ k → somewhere (put p k true) j ≡ somewhere p j
+  unfolding somewhere
   some-with zero l = refl
   some-with (suc j) l = ap₂ _||_ (some-with j (omega arith)) (put-other p k true j (λ e. omega arith))
 

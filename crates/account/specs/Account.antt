@@ -4,8 +4,8 @@ use mathlib.Core.Bool.{Bool, true, false, not, _&&_, _||_}
 use mathlib.Core.List.{List}
 use lib.Dec.{leb, eqb}
 use lib.ListN.{length, getD}
-use Rattle.profile.specs.Limits.{weightLeast, weightMost, isSpan}
-use Rattle.account.specs.Below.{every}
+use Rattle.profile.specs.Limits.{weightLeast, weightMost, badSpan}
+use Rattle.account.specs.Below.{everywhere}
 use Rattle.account.specs.Stands.{Stands, neverFalling, lastLessFirst}
 
 -- weights (n), marks and counts (n+1): a boundary is the start of a gas day, a reading's count the meter's register in Wh, a cut a date at which
@@ -48,11 +48,7 @@ shown a =
       cut = λ k. marksCut (getD (a .marks) k 0);
     }
 
--- "n outside 1 to 1,096"
-abbrev pub badSpan : ℕ → Bool
-badSpan n = not (isSpan n)
-
--- "... or a lent length unfit": marks and counts are n+1 long
+-- "n outside 1 to 1,096, or a lent length unfit": marks and counts are n+1 long
 abbrev pub unfitLengths : ℕ → ℕ → ℕ → Bool
 unfitLengths n marks counts = badSpan n || not (eqb marks (n + 1)) || not (eqb counts (n + 1))
 
@@ -64,14 +60,14 @@ abbrev pub goodWeight : ℕ → Bool
 goodWeight x = leb weightLeast x && leb x weightMost
 
 unfoldable pub goodWeights : List ℕ → Bool
-goodWeights w = every (λ d. goodWeight (getD w d 0)) (length w)
+goodWeights w = everywhere (λ d. goodWeight (getD w d 0)) (length w)
 
 -- "... marks 0 to 3, zero counts as said": at every boundary, 0 to n
 unfoldable pub goodMarks : Account → Bool
-goodMarks a = every (λ k. leb (getD (a .marks) k 0) 3) (suc (days a))
+goodMarks a = everywhere (λ k. leb (getD (a .marks) k 0) 3) (suc (days a))
 
 unfoldable pub zeroCounts : Account → Bool
-zeroCounts a = every (λ k. shown a .readings .at k || eqb (getD (a .counts) k 0) 0) (suc (days a))
+zeroCounts a = everywhere (λ k. shown a .readings .at k || eqb (getD (a .counts) k 0) 0) (suc (days a))
 
 -- "last less first at most 2,000,000,000"
 abbrev pub energyMost : ℕ

@@ -63,8 +63,8 @@ pub record UncutMet (before : Account) (k : ℕ) (answer : Answer) (after : Acco
 -- rows 3 and 5 asked alone (0: neither), and the weights asked alone
 pub record CheckMet (before : Account) (answered : ℕ) (after : Account) : Type 0 where
   pub answers : answered ≡ accountRows before 0
-  pub leaves : after ≡ before
+  pub stays : after ≡ before
 
 pub record GoodWeightsMet (w : List ℕ) (good : Bool) (after : List ℕ) : Type 0 where
   pub says : good ≡ goodWeights w
-  pub leaves : after ≡ w
+  pub stays : after ≡ w

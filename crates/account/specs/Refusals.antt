@@ -4,15 +4,15 @@ use Prim.Native.Nat.{ℕ, suc}
 use mathlib.Core.Bool.{Bool, not, _&&_, _||_}
 use lib.Dec.{ltb}
 use Rattle.profile.specs.Rows.{row}
-use Rattle.account.specs.Below.{some}
+use Rattle.account.specs.Below.{somewhere}
 use Rattle.account.specs.Stands.{Stands, Readings, withReading, lastLessFirst}
 use Rattle.account.specs.Account.{Account, days, shown, unfit, sound, goodWeights, energyMost}
 
 -- 8: "count below an earlier or above a later reading"
 unfoldable pub outOfOrder : ℕ → Readings → ℕ → ℕ → Bool
 outOfOrder n r k v =
-    some (λ j. ltb j k && (r .at j && ltb v (r .count j))) (suc n) ||
-    some (λ j. ltb k j && (r .at j && ltb (r .count j) v)) (suc n)
+    somewhere (λ j. ltb j k && (r .at j && ltb v (r .count j))) (suc n) ||
+    somewhere (λ j. ltb k j && (r .at j && ltb (r .count j) v)) (suc n)
 
 -- 9: last less first above 2,000,000,000, the call's own count taken in among those standing
 abbrev pub tooMuch : ℕ → Readings → ℕ → ℕ → Bool
@@ -21,42 +21,42 @@ tooMuch n r k v = ltb energyMost (lastLessFirst n (withReading r k v))
 -- the rows for a call on boundary k of an account of n days, over what stands
 abbrev pub readingRows : ℕ → Stands → ℕ → ℕ → ℕ
 readingRows n s k v =
-    row (ltb n k) 6
-    (row (s .readings .at k) 7
-    (row (outOfOrder n (s .readings) k v) 8
-    (row (tooMuch n (s .readings) k v) 9
+    row (ltb n k) 6  -- boundary above n
+    (row (s .readings .at k) 7  -- that mark is already there, whatever its count
+    (row (outOfOrder n (s .readings) k v) 8  -- count below an earlier or above a later reading
+    (row (tooMuch n (s .readings) k v) 9  -- last less first above 2,000,000,000
     0)))
 
 abbrev pub withdrawRows : ℕ → Stands → ℕ → ℕ
 withdrawRows n s k =
-    row (ltb n k) 6
-    (row (not (s .readings .at k)) 10
+    row (ltb n k) 6  -- boundary above n
+    (row (not (s .readings .at k)) 10  -- no such mark to remove
     0)
 
 abbrev pub cutRows : ℕ → Stands → ℕ → ℕ
 cutRows n s k =
-    row (ltb n k) 6
-    (row (s .cut k) 7
+    row (ltb n k) 6  -- boundary above n
+    (row (s .cut k) 7  -- that mark is already there
     0)
 
 abbrev pub uncutRows : ℕ → Stands → ℕ → ℕ
 uncutRows n s k =
-    row (ltb n k) 6
-    (row (not (s .cut k)) 10
+    row (ltb n k) 6  -- boundary above n
+    (row (not (s .cut k)) 10  -- no such mark to remove
     0)
 
 -- 3 and 5 come before the others, and are the same for every call but open
 abbrev pub accountRows : Account → ℕ → ℕ
 accountRows a rest =
-    row (unfit a) 3
-    (row (not (sound a)) 5
+    row (unfit a) 3  -- n outside 1 to 1,096, or a lent length unfit
+    (row (not (sound a)) 5  -- account unsound
     rest)
 
 -- "Open ..., checking only lengths and weights."
 abbrev pub openNumber : Account → ℕ
 openNumber a =
-    row (unfit a) 3
-    (row (not (goodWeights (a .weights))) 5
+    row (unfit a) 3  -- n outside 1 to 1,096, or a lent length unfit
+    (row (not (goodWeights (a .weights))) 5  -- lent weights unsound
     0)
 
 abbrev pub readingNumber : Account → ℕ → ℕ → ℕ

@@ -4,7 +4,7 @@
 use Prim.Native.Nat.{ℕ, zero, suc, _-_}
 use mathlib.Core.Bool.{Bool, true, false, cond, _&&_}
 use lib.Dec.{leb, eqb}
-use Rattle.account.specs.Below.{some, first, last}
+use Rattle.account.specs.Below.{somewhere, first, last}
 
 pub record Readings : Type 0 where
   pub at : ℕ → Bool
@@ -43,4 +43,4 @@ lastLessFirst n r = r .count (lastReading n r) - r .count (firstReading n r)
 -- "Readings never falling", below boundary m: each has at least what the reading before it has, if there is one before it
 unfoldable pub neverFalling : Readings → ℕ → Bool
 neverFalling r zero = true
-neverFalling r (suc m) = neverFalling r m && cond (r .at m && some (r .at) m) (leb (r .count (last (r .at) m)) (r .count m)) true
+neverFalling r (suc m) = neverFalling r m && cond (r .at m && somewhere (r .at) m) (leb (r .count (last (r .at) m)) (r .count m)) true

@@ -1,7 +1,8 @@
 // Readings and cuts as the marks and counts show them (Account and its calls). Every function is total.
 ghost use Prim.Native.Nat.{_-_};
 ghost use mathlib.Core.Path.{_≡_};
-ghost use lib.ListN.{length, getD, replicate};
+ghost use lib.ListN.{length, getD};
+ghost use Rattle.profile.specs.Rows.{zeros};
 ghost use Rattle.account.specs.Below as boundaries;
 ghost use Rattle.account.specs.Account.{marksReading, marksCut};
 ghost use Rattle.account.specs.Slices.{readsAt, countAt, spread};
@@ -93,7 +94,7 @@ pub(crate) fn last_less_first(marks: &[u8], counts: &[u64]) -> u64
 }
 
 pub(crate) fn clear_marks(marks: &mut [u8])
-    ensures { λ _. ⌜ now (marks .exit) ≡ replicate (length (now (marks .entry))) 0 ⌝ }
+    ensures { λ _. ⌜ now (marks .exit) ≡ zeros (now (marks .entry)) ⌝ }
 {
     let mut k = 0;
     while k < marks.len() {
@@ -103,7 +104,7 @@ pub(crate) fn clear_marks(marks: &mut [u8])
 }
 
 pub(crate) fn clear_counts(counts: &mut [u64])
-    ensures { λ _. ⌜ now (counts .exit) ≡ replicate (length (now (counts .entry))) 0 ⌝ }
+    ensures { λ _. ⌜ now (counts .exit) ≡ zeros (now (counts .entry)) ⌝ }
 {
     let mut k = 0;
     while k < counts.len() {

@@ -5,6 +5,8 @@ use libc::STDOUT_FILENO;
 use profile::Profile;
 use report::FILE_READ;
 ghost use mathlib.Core.Path.{_≡_};
+ghost use lib.ListN.{length, take};
+ghost use Rattle.casefile.specs.Length.{bytesRead};
 ghost use Rattle.report.specs.Report.{fileText};
 
 fn main() {
@@ -21,12 +23,12 @@ fn main() {
         &mut counts,
         &mut text,
     );
-    print(&file[..length], &text[..n]);
+    print(&file, length, &text[..n]);
 }
 
-// Writes the text of a file, and can be handed nothing else.
-fn print(file: &[u8], text: &[u8])
-    requires { ⌜ now text ≡ fileText (now file) ⌝ }
+// Writes the text of a file, whose first 16,384 bytes at most stand in a buffer of that length, and can be handed nothing else.
+fn print(file: &[u8], read: usize, text: &[u8])
+    requires { ⌜ (length (now file) ≡ bytesRead) × (now text ≡ fileText (take read (now file))) ⌝ }
 {
     io::write_all(STDOUT_FILENO, text);
 }

@@ -8,11 +8,10 @@ use native.Mathlib.Decide.{decLt}
 use borrow.Author.Tests.{lt-ltb, le-ltb, eq-eqb}
 use lib.Dec.{ltb, leb, eqb}
 use lib.ListN.{length, getD, replicate, length-replicate, List·getD-eq-default}
-use Rattle.profile.specs.Limits.{inRange, profileCount}
+use Rattle.profile.specs.Limits.{inRange, profileCount, badSpan}
 use Rattle.profile.specs.Rows.{row}
 use Rattle.weights.specs.Means.{someOut}
-use Rattle.weights.specs.Weights.{Outcome, unfit}
-use Rattle.account.specs.Account.{badSpan}
+use Rattle.weights.specs.Weights.{Ruling, unfit}
 use Rattle.casefile.specs.Case.{profileByte, weekdayByte, meansLength, meansOf, daysOf, readingsOffset, readingsLength}
 use Rattle.casefile.specs.Faults.{Fault, refused, _before_, fault, headFault, readingsFault}
 use Rattle.casefile.specs.Reader.{faultNumber}
@@ -63,7 +62,7 @@ span-agrees s l =
     go : (profile weekday span out : Bool) (at index : ℕ) (x y z : List ℕ) →
         faultNumber ((fault profile 1 0 before fault weekday 2 1 before fault span 3 2) before fault out 4 at) ≡
         cond (eqb (row profile 1 (row weekday 2 0)) 0)
-        (row {A = Outcome} span (record { number = 3; place = 0; memory = x })
+        (row {A = Ruling} span (record { number = 3; place = 0; memory = x })
         (row profile (record { number = 1; place = 0; memory = y })
         (row weekday (record { number = 2; place = 0; memory = y })
         (row out (record { number = 4; place = index; memory = y })

@@ -9,9 +9,9 @@ use lib.ListN.{length, replicate, length-replicate}
 use Rattle.profile.specs.Limits.{spanMost}
 use Rattle.account.specs.Account.{Account, account}
 use Rattle.casefile.specs.declared.CaseAnswer.the-variants.{Days, Refused}
-use Rattle.casefile.specs.declared.sections.Progress.{Progress}
+use Rattle.casefile.specs.declared.sections.SectionEnd.{SectionEnd}
 use Rattle.casefile.specs.Case.{daysOf, accountOf}
-use Rattle.casefile.specs.Faults.{Fault, none, faultOf}
+use Rattle.casefile.specs.Faults.{Fault, noFault, faultOf}
 use Rattle.casefile.specs.Reader.{number, place, days, faultNumber, faultPlace, unfitSlices, verdict, full, allZero, ReadMet}
 use Rattle.casefile.specs.Sections.{told, Clear, AllClear, FillMet}
 use Rattle.casefile.proofs.Faults.{clean}
@@ -36,7 +36,7 @@ fit a l = simp (eq-eqb (length (a .weights)) spanMost (l .weights), eq-eqb (leng
 
 -- 3 at 0, nothing touched
 pub unfit-met : (s : List ℕ) (lent : Account) → unfitSlices lent ≡ true → ReadMet s lent (Refused 3 0) lent s
-unfit-met s lent u = record { numbers = rw u refl; places = rw u refl; returns = rw u refl; fills = rw u refl; keeps = refl }
+unfit-met s lent u = record { answers = rw u refl; places = rw u refl; gives = rw u refl; writes = rw u refl; stays = refl }
 
 -- slices that were cleared
 clear-is : {n : ℕ} (lent : List ℕ) {after : List ℕ} → after ≡ replicate (length lent) 0 → length lent ≡ n → Clear n after
@@ -68,7 +68,7 @@ same-zeros l k = λ i.
     (replicate ((k .marks ∙ sym (l .marks)) i) 0)
     (replicate ((k .counts ∙ sym (l .counts)) i) 0)
 
-module _ {s : List ℕ} {lent filled : Account} {p : Progress} (l : Long lent) (f : FillMet s p filled) where
+module _ {s : List ℕ} {lent filled : Account} {p : SectionEnd} (l : Long lent) (f : FillMet s p filled) where
   found : faultOf s ≡ told (p .number) (p .place)
   found = sym (f .reached .tells)
 
@@ -79,21 +79,21 @@ module _ {s : List ℕ} {lent filled : Account} {p : Progress} (l : Long lent) (
   refused-met h {after} e k =
       let n = ne-eqb (p .number) 0 h in
       record {
-        numbers = sym (ap faultNumber judged ∙ told-number (p .number) (p .place));
+        answers = sym (ap faultNumber judged ∙ told-number (p .number) (p .place));
         places = sym (ap faultPlace judged ∙ told-place (p .number) (p .place) h);
-        returns = sym (ap (λ (x : Fault). cond (eqb (faultNumber x) 0) (daysOf s) 0) judged ∙ simp (told-number (p .number) (p .place), n));
-        fills = e ∙ same-zeros l k ∙ sym (rw (fit lent l) (ap (λ (x : Fault). cond (eqb (faultNumber x) 0) (full (accountOf s)) (allZero lent)) found ∙ simp (told-number (p .number) (p .place), n)));
-        keeps = refl;
+        gives = sym (ap (λ (x : Fault). cond (eqb (faultNumber x) 0) (daysOf s) 0) judged ∙ simp (told-number (p .number) (p .place), n));
+        writes = e ∙ same-zeros l k ∙ sym (rw (fit lent l) (ap (λ (x : Fault). cond (eqb (faultNumber x) 0) (full (accountOf s)) (allZero lent)) found ∙ simp (told-number (p .number) (p .place), n)));
+        stays = refl;
       }
 
   pub days-met : p .number ≡ 0 → ReadMet s lent (Days (p .days)) filled s
   days-met z =
       let e = clean (f .reached) z in
-      let v : verdict s lent ≡ none = rw (fit lent l) e in
+      let v : verdict s lent ≡ noFault = rw (fit lent l) e in
       record {
-        numbers = sym (ap faultNumber v);
+        answers = sym (ap faultNumber v);
         places = sym (ap faultPlace v);
-        returns = f .reached .days-are z ∙ sym (ap (λ (x : Fault). cond (eqb (faultNumber x) 0) (daysOf s) 0) v);
-        fills = f .fills z ∙ sym (rw (fit lent l) (ap (λ (x : Fault). cond (eqb (faultNumber x) 0) (full (accountOf s)) (allZero lent)) e));
-        keeps = refl;
+        gives = f .reached .days-are z ∙ sym (ap (λ (x : Fault). cond (eqb (faultNumber x) 0) (daysOf s) 0) v);
+        writes = f .fills z ∙ sym (rw (fit lent l) (ap (λ (x : Fault). cond (eqb (faultNumber x) 0) (full (accountOf s)) (allZero lent)) e));
+        stays = refl;
       }

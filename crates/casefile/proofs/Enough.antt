@@ -9,12 +9,12 @@ use borrow.Author.Tests.{le-ltb, lt-ltb}
 use lib.Dec.{ltb, leb}
 use lib.ListN.{length, getD, take}
 use lib.Seq.{getD-take, length-take-le, take-all}
-use Rattle.profile.specs.Limits.{profileCount, inRange, spanMost}
-use Rattle.account.specs.Below.{some}
-use Rattle.account.specs.Account.{badSpan, energyMost}
+use Rattle.profile.specs.Limits.{profileCount, inRange, spanMost, badSpan}
+use Rattle.account.specs.Below.{somewhere}
+use Rattle.account.specs.Account.{energyMost}
 use Rattle.casefile.specs.Bytes.{little, number16, number64, signed}
 use Rattle.casefile.specs.Case.{meansLength, meanOffset, daysOf, readingsOffset, readingsLength, readingOffset, readingBoundary, readingCount, cutsOffset, cutsLength, cutOffset, cutBoundary, endOf}
-use Rattle.casefile.specs.Faults.{Fault, none, refused, _before_, fault, firstFault, early, falls, meanFault, readingFault, cutFault, faultOf, headFault, meansFault, readingsFault, cutsFault}
+use Rattle.casefile.specs.Faults.{Fault, noFault, refused, _before_, fault, firstFault, early, falls, meanFault, readingFault, cutFault, faultOf, headFault, meansFault, readingsFault, cutsFault}
 use Rattle.casefile.specs.Sections.{spanFault, filedFault}
 use Rattle.casefile.specs.Length.{fileMost, bytesRead, EnoughBytes}
 use Rattle.casefile.proofs.Faults.{none-both, passes}
@@ -23,8 +23,8 @@ use Rattle.casefile.proofs.Weighing.{head-none}
 use Rattle.casefile.proofs.Longest.{few-readings, few-cuts}
 
 -- the first fault of two is the same where each is, the second only needed where the first is none
-both-same : (f g : Fault) {f′ g′ : Fault} → f ≡ f′ → (f ≡ none → g ≡ g′) → (f before g) ≡ (f′ before g′)
-both-same none g {f′} {g′} e h = h refl ∙ ap (λ (x : Fault). x before g′) e
+both-same : (f g : Fault) {f′ g′ : Fault} → f ≡ f′ → (f ≡ noFault → g ≡ g′) → (f before g) ≡ (f′ before g′)
+both-same noFault g {f′} {g′} e h = h refl ∙ ap (λ (x : Fault). x before g′) e
 both-same (refused n k) g {f′} {g′} e h = ap (λ (x : Fault). x before g′) e
 
 -- items that are the same one by one
@@ -33,8 +33,8 @@ unfolding firstFault
 first-same f g zero same = refl
 first-same f g (suc m) same = λ k. first-same f g m (λ i l. same i (omega arith)) k before same m (omega arith) k
 
-some-same : (p q : ℕ → Bool) (m : ℕ) → ((i : ℕ) → i < m → p i ≡ q i) → some p m ≡ some q m
-unfolding some
+some-same : (p q : ℕ → Bool) (m : ℕ) → ((i : ℕ) → i < m → p i ≡ q i) → somewhere p m ≡ somewhere q m
+unfolding somewhere
 some-same p q zero same = refl
 some-same p q (suc m) same = λ k. some-same p q m (λ i l. same i (omega arith)) k || same m (omega arith) k
 
@@ -43,18 +43,18 @@ falls-same b c zero same = refl
 falls-same b c (suc i) same = λ k. leb (same (suc i) (omega arith) k) (same i (omega arith) k)
 
 -- a fault among the first m items is the first of any more
-keeps : (f g : Fault) → (f ≡ none → ⊥) → (f before g) ≡ f
-keeps none g h = absurd (h refl)
+keeps : (f g : Fault) → (f ≡ noFault → ⊥) → (f before g) ≡ f
+keeps noFault g h = absurd (h refl)
 keeps (refused n k) g h = refl
 
-first-stays : (f : ℕ → Fault) (m k : ℕ) → m ≤ k → (firstFault f m ≡ none → ⊥) → firstFault f k ≡ firstFault f m
+first-stays : (f : ℕ → Fault) (m k : ℕ) → m ≤ k → (firstFault f m ≡ noFault → ⊥) → firstFault f k ≡ firstFault f m
 unfolding firstFault
 first-stays f m zero l h =
     let same : 0 ≡ m = omega arith in
     ap (firstFault f) same
 first-stays f m (suc k) l h = go (first-stays f m k) (decLt k m)
   where
-    go : (m ≤ k → (firstFault f m ≡ none → ⊥) → firstFault f k ≡ firstFault f m) → Dec (k < m) → firstFault f (suc k) ≡ firstFault f m
+    go : (m ≤ k → (firstFault f m ≡ noFault → ⊥) → firstFault f k ≡ firstFault f m) → Dec (k < m) → firstFault f (suc k) ≡ firstFault f m
     go earlier (yes g) =
         let same : suc k ≡ m = omega arith in
         ap (firstFault f) same
@@ -63,7 +63,7 @@ first-stays f m (suc k) l h = go (first-stays f m k) (decLt k m)
         keeps (firstFault f k) (f k) (λ z. h (sym e ∙ z)) ∙ e
 
 -- .. so that the items after those decide nothing
-within-same : (f g : ℕ → Fault) (most m : ℕ) → ((i : ℕ) → i < most → f i ≡ g i) → (firstFault f most ≡ none → ⊥) → firstFault f m ≡ firstFault g m
+within-same : (f g : ℕ → Fault) (most m : ℕ) → ((i : ℕ) → i < most → f i ≡ g i) → (firstFault f most ≡ noFault → ⊥) → firstFault f m ≡ firstFault g m
 within-same f g most m same h = go (decLt m most)
   where
     all : firstFault f most ≡ firstFault g most
@@ -101,7 +101,7 @@ module _ {s t : List ℕ} (a : Alike s t) where
   means-counted : meansLength s ≡ meansLength t
   means-counted = number 2 2 (omega arith)
 
-  module _ (h : headFault s ≡ none) where
+  module _ (h : headFault s ≡ noFault) where
     span : daysOf s ≤ spanMost
     span = head-none s h .span .most
 
@@ -141,7 +141,7 @@ module _ {s t : List ℕ} (a : Alike s t) where
         whole (readingsOffset s + 2) (readingsOffset t + 2) (omega (arith, span)) (omega (arith, span, means-counted)) k before
         (items ∙ ap (firstFault (readingFault t)) readings-counted) k
 
-    module _ (r : readingsFault s ≡ none) where
+    module _ (r : readingsFault s ≡ noFault) where
       few : readingsLength s ≤ 1097
       few = omega (arith, span, few-readings s (readingsLength s) (passes (ltb (length s) (readingsOffset s + 2)) 13 (length s) _ r .1))
 
@@ -176,7 +176,7 @@ module _ {s t : List ℕ} (a : Alike s t) where
       ends : endOf s ≡ endOf t
       ends = cut-offset (cutsLength s) ∙ ap (cutOffset t) cuts-counted
 
-      left-over : firstFault (cutFault s) (cutsLength s) ≡ none → fault (ltb (endOf s) (length s)) 13 (endOf s) ≡ fault (ltb (endOf t) (length t)) 13 (endOf t)
+      left-over : firstFault (cutFault s) (cutsLength s) ≡ noFault → fault (ltb (endOf s) (length s)) 13 (endOf s) ≡ fault (ltb (endOf t) (length t)) 13 (endOf t)
       left-over z =
           let end : endOf s ≤ fileMost = omega (arith, near, span, few-cuts s (cutsLength s) z) in
           let both = lt-ltb (endOf s) (length s) (omega (arith, a .long)) ∙ sym (lt-ltb (endOf t) (length t) (omega (arith, a .long-too, ends))) in

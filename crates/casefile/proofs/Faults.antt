@@ -6,42 +6,42 @@ use native.Mathlib.Omega.{arith}
 use native.Mathlib.Numerals.{add-one}
 use native.Mathlib.Decide.{decLt}
 use Rattle.profile.specs.Rows.{row}
-use Rattle.casefile.specs.declared.sections.Progress.{Progress}
-use Rattle.casefile.specs.Faults.{Fault, none, refused, _before_, fault, firstFault}
+use Rattle.casefile.specs.declared.sections.SectionEnd.{SectionEnd}
+use Rattle.casefile.specs.Faults.{Fault, noFault, refused, _before_, fault, firstFault}
 use Rattle.casefile.specs.Reader.{faultNumber}
 use Rattle.casefile.specs.Sections.{told, Reached}
 
 pub before-assoc : (f g h : Fault) → ((f before g) before h) ≡ (f before (g before h))
-before-assoc none g h = refl
+before-assoc noFault g h = refl
 before-assoc (refused n k) g h = refl
 
 -- a fault that was met
-pub met : {number place : ℕ} {p : Progress} → 0 < number → p ≡ record { number = number; place = place; days = 0; next = 0 } → p .number ≡ 0 → ⊥
-met l e z = omega (arith, ap (λ (q : Progress). q .number) e)
+pub met : {number place : ℕ} {p : SectionEnd} → 0 < number → p ≡ record { number = number; place = place; days = 0; next = 0 } → p .number ≡ 0 → ⊥
+met l e z = omega (arith, ap (λ (q : SectionEnd). q .number) e)
 
-pub stops : {f : Fault} {n next number place : ℕ} {p : Progress} → 0 < number → p ≡ record { number = number; place = place; days = 0; next = 0 } → told number place ≡ f → Reached f n next p
+pub stops : {f : Fault} {n next number place : ℕ} {p : SectionEnd} → 0 < number → p ≡ record { number = number; place = place; days = 0; next = 0 } → told number place ≡ f → Reached f n next p
 stops l e t = record { tells = rw e t; days-are = λ z. absurd (met l e z); next-is = λ z. absurd (met l e z) }
 
 -- no fault
-pub goes : {f : Fault} {n next days at : ℕ} {p : Progress} → p ≡ record { number = 0; place = 0; days = days; next = at } → none ≡ f → days ≡ n → at ≡ next → Reached f n next p
+pub goes : {f : Fault} {n next days at : ℕ} {p : SectionEnd} → p ≡ record { number = 0; place = 0; days = days; next = at } → noFault ≡ f → days ≡ n → at ≡ next → Reached f n next p
 goes e t d a =
     record {
       tells = rw e t;
-      days-are = λ z. ap (λ (q : Progress). q .days) e ∙ d;
-      next-is = λ z. ap (λ (q : Progress). q .next) e ∙ a;
+      days-are = λ z. ap (λ (q : SectionEnd). q .days) e ∙ d;
+      next-is = λ z. ap (λ (q : SectionEnd). q .next) e ∙ a;
     }
 
 -- the items before i have no fault, and item i ..
-pub first-more : (f : ℕ → Fault) (i : ℕ) → firstFault f i ≡ none → f i ≡ none → firstFault f (i + 1) ≡ none
+pub first-more : (f : ℕ → Fault) (i : ℕ) → firstFault f i ≡ noFault → f i ≡ noFault → firstFault f (i + 1) ≡ noFault
 unfolding firstFault
 first-more f i n e = rw (add-one, n, e) refl
 
-pub first-is : (f : ℕ → Fault) (m i : ℕ) {number place : ℕ} → i < m → firstFault f i ≡ none → f i ≡ refused number place → firstFault f m ≡ refused number place
+pub first-is : (f : ℕ → Fault) (m i : ℕ) {number place : ℕ} → i < m → firstFault f i ≡ noFault → f i ≡ refused number place → firstFault f m ≡ refused number place
 unfolding firstFault
 first-is f zero i l n e = absurd (omega arith)
 first-is f (suc m) i {number} {place} l n e = go (first-is f m i) (decLt i m)
   where
-    go : (i < m → firstFault f i ≡ none → f i ≡ refused number place → firstFault f m ≡ refused number place) → Dec (i < m)
+    go : (i < m → firstFault f i ≡ noFault → f i ≡ refused number place → firstFault f m ≡ refused number place) → Dec (i < m)
         → (firstFault f m before f m) ≡ refused number place
     go earlier (yes h) = rw (earlier h n e) refl
     go earlier (no g) =
@@ -49,16 +49,16 @@ first-is f (suc m) i {number} {place} l n e = go (first-is f m i) (decLt i m)
         rw (same, n) e
 
 -- no fault in any of them
-pub none-of : (f : ℕ → Fault) (m : ℕ) → ((i : ℕ) → i < m → f i ≡ none) → firstFault f m ≡ none
+pub none-of : (f : ℕ → Fault) (m : ℕ) → ((i : ℕ) → i < m → f i ≡ noFault) → firstFault f m ≡ noFault
 unfolding firstFault
 none-of f zero e = refl
 none-of f (suc m) e = rw (none-of f m (λ i l. e i (omega arith)), e m (omega arith)) refl
 
-pub none-both : (f g : Fault) → (f before g) ≡ none → (f ≡ none) × (g ≡ none)
-none-both none g e = (refl, e)
+pub none-both : (f g : Fault) → (f before g) ≡ noFault → (f ≡ noFault) × (g ≡ noFault)
+none-both noFault g e = (refl, e)
 none-both (refused n k) g e = absurd (let z : _≡_ {A = ℕ} 0 1 = cc in omega arith)
 
-pub no-fault : (b : Bool) (number place : ℕ) → fault b number place ≡ none → b ≡ false
+pub no-fault : (b : Bool) (number place : ℕ) → fault b number place ≡ noFault → b ≡ false
 no-fault false number place e = refl
 no-fault true number place e = absurd (let z : _≡_ {A = ℕ} 0 1 = cc in omega arith)
 
@@ -72,42 +72,42 @@ number-before true number place g = refl
 number-before false number place g = refl
 
 -- a condition that does not hold, and what comes after it
-pub passes : (b : Bool) (number place : ℕ) (g : Fault) → (fault b number place before g) ≡ none → (b ≡ false) × (g ≡ none)
+pub passes : (b : Bool) (number place : ℕ) (g : Fault) → (fault b number place before g) ≡ noFault → (b ≡ false) × (g ≡ noFault)
 passes b number place g e =
     let n = none-both (fault b number place) g e in
     (no-fault b number place (n .0), n .1)
 
-pub none-before : (f : ℕ → Fault) (m i : ℕ) → i < m → firstFault f m ≡ none → f i ≡ none
+pub none-before : (f : ℕ → Fault) (m i : ℕ) → i < m → firstFault f m ≡ noFault → f i ≡ noFault
 unfolding firstFault
 none-before f zero i l e = absurd (omega arith)
 none-before f (suc m) i l e = go (none-before f m i) (none-both (firstFault f m) (f m) e) (decLt i m)
   where
-    go : (i < m → firstFault f m ≡ none → f i ≡ none) → (firstFault f m ≡ none) × (f m ≡ none) → Dec (i < m) → f i ≡ none
+    go : (i < m → firstFault f m ≡ noFault → f i ≡ noFault) → (firstFault f m ≡ noFault) × (f m ≡ noFault) → Dec (i < m) → f i ≡ noFault
     go earlier n (yes h) = earlier h (n .0)
     go earlier n (no g) =
         let same : i ≡ m = omega arith in
         rw same (n .1)
 
-pub first-few : (f : ℕ → Fault) (m i : ℕ) → i < m → firstFault f m ≡ none → firstFault f i ≡ none
+pub first-few : (f : ℕ → Fault) (m i : ℕ) → i < m → firstFault f m ≡ noFault → firstFault f i ≡ noFault
 unfolding firstFault
 first-few f zero i l e = absurd (omega arith)
 first-few f (suc m) i l e = go (first-few f m i) (none-both (firstFault f m) (f m) e .0) (decLt i m)
   where
-    go : (i < m → firstFault f m ≡ none → firstFault f i ≡ none) → firstFault f m ≡ none → Dec (i < m) → firstFault f i ≡ none
+    go : (i < m → firstFault f m ≡ noFault → firstFault f i ≡ noFault) → firstFault f m ≡ noFault → Dec (i < m) → firstFault f i ≡ noFault
     go earlier n (yes h) = earlier h n
     go earlier n (no g) =
         let same : i ≡ m = omega arith in
         rw same n
 
 -- the reader's progress over two sections: the first has no fault, or has one and the second is not read
-pub clean : {f : Fault} {n next : ℕ} {p : Progress} → Reached f n next p → p .number ≡ 0 → f ≡ none
+pub clean : {f : Fault} {n next : ℕ} {p : SectionEnd} → Reached f n next p → p .number ≡ 0 → f ≡ noFault
 clean {p = p} r z = sym (r .tells) ∙ ap (λ (n : ℕ). told n (p .place)) z
 
 told-first : (number place : ℕ) (g : Fault) → (number ≡ 0 → ⊥) → told number place ≡ (told number place before g)
 told-first zero place g n = absurd (n refl)
 told-first (suc number) place g n = refl
 
-pub stays : {f : Fault} {m n at next : ℕ} {p : Progress} (g : Fault) → Reached f m at p → (p .number ≡ 0 → ⊥) → Reached (f before g) n next p
+pub stays : {f : Fault} {m n at next : ℕ} {p : SectionEnd} (g : Fault) → Reached f m at p → (p .number ≡ 0 → ⊥) → Reached (f before g) n next p
 stays {p = p} g r h =
     record {
       tells = told-first (p .number) (p .place) g h ∙ ap (λ (x : Fault). x before g) (r .tells);
@@ -115,10 +115,10 @@ stays {p = p} g r h =
       next-is = λ z. absurd (h z);
     }
 
-pub joins : {f g : Fault} {m n at next : ℕ} {p q : Progress} → Reached f m at p → p .number ≡ 0 → Reached g n next q → Reached (f before g) n next q
+pub joins : {f g : Fault} {m n at next : ℕ} {p q : SectionEnd} → Reached f m at p → p .number ≡ 0 → Reached g n next q → Reached (f before g) n next q
 joins {f} {g} r z t = record { tells = t .tells ∙ ap (λ (x : Fault). x before g) (sym (clean r z)); days-are = t .days-are; next-is = t .next-is }
 
 -- the fault that an item's number and place tell is the first of its section
-pub first-told : (f : ℕ → Fault) (m i number place : ℕ) → i < m → firstFault f i ≡ none → (number ≡ 0 → ⊥) → told number place ≡ f i → told number place ≡ firstFault f m
+pub first-told : (f : ℕ → Fault) (m i number place : ℕ) → i < m → firstFault f i ≡ noFault → (number ≡ 0 → ⊥) → told number place ≡ f i → told number place ≡ firstFault f m
 first-told f m i zero place l n h e = absurd (h refl)
 first-told f m i (suc number) place l n h e = sym (first-is f m i l n (sym e))

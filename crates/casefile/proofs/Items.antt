@@ -11,14 +11,14 @@ use lib.Dec.{ltb, leb}
 use lib.ListN.{length, set}
 use native.Mathlib.Numerals.{add-one}
 use native.Mathlib.Nat.{le-refl}
-use Rattle.account.specs.Below.{some}
+use Rattle.account.specs.Below.{somewhere}
 use Rattle.casefile.specs.Case.{daysOf, readingOffset, readingBoundary, readingCount, emptyCase, withReadings}
-use Rattle.casefile.specs.Faults.{none, firstFault, falls, readingFault}
+use Rattle.casefile.specs.Faults.{noFault, firstFault, falls, readingFault}
 use Rattle.casefile.specs.Reader.{full}
 use Rattle.casefile.specs.declared.readings.Reading.{Reading}
 use Rattle.casefile.specs.Sections.{told, countFault, itemFault, CountedMet, ItemMet}
 use Rattle.casefile.proofs.Faults.{first-more, passes}
-use Rattle.casefile.proofs.Filed.{filled-set, readings-kept, uncut}
+use Rattle.casefile.proofs.Kept.{filled-set, readings-kept, uncut}
 
 pub stored : {number place : ℕ} {r : Reading} → 0 < number → r ≡ record { number = number; place = place; boundary = 0; count = 0 } → r .number ≡ 0 → ⊥
 stored l e z = omega (arith, ap (λ (q : Reading). q .number) e)
@@ -50,24 +50,24 @@ rises boundary (suc i) = go (decLt (boundary i) (boundary (suc i)))
     go (no n) = lt-ltb (boundary (suc i)) (boundary i + 1) (omega arith) ∙ sym (le-leb (boundary (suc i)) (boundary i) (omega arith))
 
 -- where counts have not fallen, some earlier count is above this one if the last is
-pub some-above : (count : ℕ → ℕ) (v last i : ℕ) → ((j : ℕ) → j < i → count j ≤ last) → last ≤ v → some (λ j. ltb v (count j)) i ≡ false
-unfolding some
+pub some-above : (count : ℕ → ℕ) (v last i : ℕ) → ((j : ℕ) → j < i → count j ≤ last) → last ≤ v → somewhere (λ j. ltb v (count j)) i ≡ false
+unfolding somewhere
 some-above count v last zero top l = refl
 some-above count v last (suc i) top l =
     rw (some-above count v last i (λ j h. top j (omega arith)) l, le-ltb v (count i) (omega (arith, top i (omega arith)))) refl
 
-pub falling : (count : ℕ → ℕ) (v i : ℕ) → ((j : ℕ) → j < i → count j ≤ before count i) → (i ≡ 0 → v ≡ count 0) → some (λ j. ltb v (count j)) i ≡ ltb v (before count i)
-unfolding some
+pub falling : (count : ℕ → ℕ) (v i : ℕ) → ((j : ℕ) → j < i → count j ≤ before count i) → (i ≡ 0 → v ≡ count 0) → somewhere (λ j. ltb v (count j)) i ≡ ltb v (before count i)
+unfolding somewhere
 falling count v zero top e = sym (le-ltb v (count 0) (omega (arith, e refl)))
 falling count v (suc i) top e = go (decLt v (count i))
   where
-    go : Dec (v < count i) → (some (λ j. ltb v (count j)) i || ltb v (count i)) ≡ ltb v (count i)
-    go (yes l) = rw (lt-ltb v (count i) l) (or-true (some (λ j. ltb v (count j)) i))
+    go : Dec (v < count i) → (somewhere (λ j. ltb v (count j)) i || ltb v (count i)) ≡ ltb v (count i)
+    go (yes l) = rw (lt-ltb v (count i) l) (or-true (somewhere (λ j. ltb v (count j)) i))
     go (no n) = rw (le-ltb v (count i) (omega arith), some-above count v (count i) i (λ j h. top j (omega arith)) (omega arith)) refl
 
 -- the first i readings have no fault, and stand in marks and counts
 pub record ReadingsRead (s marks counts : List ℕ) (low last i : ℕ) : Type 0 where
-  pub clean : firstFault (readingFault s) i ≡ none
+  pub clean : firstFault (readingFault s) i ≡ noFault
   pub low-is : low ≡ above (readingBoundary s) i
   pub last-is : readingOffset s 0 + 10 ≤ length s → last ≡ before (readingCount s) i
   pub top : (j : ℕ) → j < i → readingCount s j ≤ last
@@ -79,14 +79,14 @@ pub record Sane (s : List ℕ) (i : ℕ) : Type 0 where
   pub long : readingOffset s i + 10 ≤ length s
   pub rising : falls (readingBoundary s) i ≡ false
   pub inside : readingBoundary s i ≤ daysOf s
-  pub ordered : some (λ j. ltb (readingCount s i) (readingCount s j)) i ≡ false
+  pub ordered : somewhere (λ j. ltb (readingCount s i) (readingCount s j)) i ≡ false
 
-pub sane : (s : List ℕ) (i : ℕ) → readingFault s i ≡ none → Sane s i
+pub sane : (s : List ℕ) (i : ℕ) → readingFault s i ≡ noFault → Sane s i
 sane s i e =
     let f1 = passes (ltb (length s) (readingOffset s i + 10)) 13 (length s) _ e in
     let f2 = passes (falls (readingBoundary s) i) 13 (readingOffset s i) _ (f1 .1) in
     let f3 = passes (ltb (daysOf s) (readingBoundary s i)) 6 (readingOffset s i) _ (f2 .1) in
-    let f4 = passes (some (λ j. ltb (readingCount s i) (readingCount s j)) i) 8 (readingOffset s i + 2) _ (f3 .1) in
+    let f4 = passes (somewhere (λ j. ltb (readingCount s i) (readingCount s j)) i) 8 (readingOffset s i + 2) _ (f3 .1) in
     record {
       long = ltb-false _ _ (f1 .0);
       rising = f2 .0;
@@ -95,7 +95,7 @@ sane s i e =
     }
 
 module _ {s marks counts : List ℕ} {low last i : ℕ} (r : ReadingsRead s marks counts low last i) where
-  above-all : readingOffset s i + 10 ≤ length s → some (λ j. ltb (readingCount s i) (readingCount s j)) i ≡ ltb (readingCount s i) last
+  above-all : readingOffset s i + 10 ≤ length s → somewhere (λ j. ltb (readingCount s i) (readingCount s j)) i ≡ ltb (readingCount s i) last
   above-all l =
       let e = r .last-is (omega arith) in
       rw e (falling (readingCount s) (readingCount s i) i (λ j h. rw e at (r .top j h)) (λ z. ap (readingCount s) z))
@@ -111,7 +111,7 @@ module _ {s marks counts : List ℕ} {low last i : ℕ} (r : ReadingsRead s mark
           simp (e, r .low-is, rises (readingBoundary s) i, ← above-all (omega arith))
 
   -- .. so that the count before is at most this one
-  pub not-below : readingFault s i ≡ none → last ≤ readingCount s i
+  pub not-below : readingFault s i ≡ noFault → last ≤ readingCount s i
   not-below e =
       let g = sane s i e in
       ltb-false (readingCount s i) last (sym (above-all (g .long)) ∙ g .ordered)
@@ -121,7 +121,7 @@ pub readings-none : {s marks counts : List ℕ} {first : ℕ} → marks ≡ full
 unfolding firstFault withReadings
 readings-none m c f = record { clean = refl; low-is = refl; last-is = f; top = λ j h. absurd (omega arith); marks-are = m; counts-are = c }
 
-pub readings-more : {s marks counts : List ℕ} {low last i : ℕ} → ReadingsRead s marks counts low last i → readingFault s i ≡ none
+pub readings-more : {s marks counts : List ℕ} {low last i : ℕ} → ReadingsRead s marks counts low last i → readingFault s i ≡ noFault
     → ReadingsRead s (set marks (readingBoundary s i) 2) (set counts (readingBoundary s i) (readingCount s i)) (readingBoundary s i + 1) (readingCount s i) (i + 1)
 unfolding withReadings
 readings-more {s} {marks} {counts} {low} {last} {i} r e =

@@ -1,9 +1,10 @@
+-- The laws that the proofs of crate casefile share, and its theorems.
 pub mod Numbers
 pub mod Faults
 pub mod Means
 pub mod Weighing
 pub mod Items
-pub mod Filed
+pub mod Kept
 pub mod Chained
 pub mod Marked
 pub mod Answered
@@ -12,6 +13,6 @@ pub mod Sound
 pub mod Agreed
 pub mod Held
 pub mod Again
-pub mod Reached
+pub mod LongestTaken
 pub mod Longest
 pub mod Enough

@@ -8,14 +8,14 @@ use borrow.Author.Tests.{ltb-false}
 use lib.Dec.{ltb}
 use lib.ListN.{length}
 use Rattle.casefile.specs.Case.{daysOf, readingsLength, readingBoundary, cutsLength, cutBoundary, endOf}
-use Rattle.casefile.specs.Faults.{none, firstFault, falls, readingFault, cutFault, faultOf}
+use Rattle.casefile.specs.Faults.{noFault, firstFault, falls, readingFault, cutFault, faultOf}
 use Rattle.casefile.specs.Length.{fileMost, LongestFile}
 use Rattle.casefile.proofs.Faults.{none-before, no-fault}
 use Rattle.casefile.proofs.Items.{Sane, sane}
 use Rattle.casefile.proofs.Ordered.{climbs}
 use Rattle.casefile.proofs.Sound.{SaneCut, sane-cut, clean-of}
 use Rattle.casefile.proofs.Chained.{span-none}
-use Rattle.casefile.proofs.Reached.{taken}
+use Rattle.casefile.proofs.LongestTaken.{taken}
 
 -- boundaries that rise are at least their numbers
 pub at-least : (boundary : ℕ → ℕ) (i : ℕ) → ((j : ℕ) → j < suc i → falls boundary j ≡ false) → i ≤ boundary i
@@ -23,20 +23,20 @@ at-least boundary zero up = omega arith
 at-least boundary (suc i) up = omega (arith, at-least boundary i (λ j l. up j (omega arith)), climbs boundary (suc i) (up (suc i) (omega arith)))
 
 -- so at most n+1 readings, or cuts, have no fault
-pub few-readings : (s : List ℕ) (m : ℕ) → firstFault (readingFault s) m ≡ none → m ≤ daysOf s + 1
+pub few-readings : (s : List ℕ) (m : ℕ) → firstFault (readingFault s) m ≡ noFault → m ≤ daysOf s + 1
 few-readings s zero e = omega arith
 few-readings s (suc m) e =
     let good : (j : ℕ) → j < suc m → Sane s j = λ j l. sane s j (none-before (readingFault s) (suc m) j l e) in
     omega (arith, at-least (readingBoundary s) m (λ j l. good j l .rising), good m (omega arith) .inside)
 
-pub few-cuts : (s : List ℕ) (m : ℕ) → firstFault (cutFault s) m ≡ none → m ≤ daysOf s + 1
+pub few-cuts : (s : List ℕ) (m : ℕ) → firstFault (cutFault s) m ≡ noFault → m ≤ daysOf s + 1
 few-cuts s zero e = omega arith
 few-cuts s (suc m) e =
     let good : (j : ℕ) → j < suc m → SaneCut s j = λ j l. sane-cut s j (none-before (cutFault s) (suc m) j l e) in
     omega (arith, at-least (cutBoundary s) m (λ j l. good j l .rising), good m (omega arith) .inside)
 
 -- no file is longer
-at-most : (s : List ℕ) → faultOf s ≡ none → length s ≤ fileMost
+at-most : (s : List ℕ) → faultOf s ≡ noFault → length s ≤ fileMost
 at-most s e =
     let c = clean-of s e in
     omega (

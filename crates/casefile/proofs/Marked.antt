@@ -10,18 +10,18 @@ use borrow.Author.Tests.{lt-ltb, le-ltb}
 use lib.Dec.{ltb}
 use lib.ListN.{length, getD, set}
 use Rattle.account.specs.Account.{marksReading, markOf}
-use Rattle.casefile.specs.declared.sections.Progress.{Progress}
+use Rattle.casefile.specs.declared.sections.SectionEnd.{SectionEnd}
 use Rattle.casefile.specs.Case.{daysOf, readingsLength, cutsLength, cutOffset, cutBoundary, withReadings, withCuts}
-use Rattle.casefile.specs.Faults.{none, firstFault, falls, cutFault}
+use Rattle.casefile.specs.Faults.{noFault, firstFault, falls, cutFault}
 use Rattle.casefile.specs.Reader.{full}
-use Rattle.casefile.specs.Sections.{told, Closed}
+use Rattle.casefile.specs.Sections.{told, CutsMet}
 use Rattle.casefile.proofs.Faults.{met, stops, first-more, first-told}
-use Rattle.casefile.proofs.Filed.{filled-set, filled-at, cuts-kept}
+use Rattle.casefile.proofs.Kept.{filled-set, filled-at, cuts-kept}
 use Rattle.casefile.proofs.Items.{above, rises}
 
 -- the first i cuts have no fault, and stand in the marks
 pub record CutsRead (s marks : List ℕ) (low i : ℕ) : Type 0 where
-  pub clean : firstFault (cutFault s) i ≡ none
+  pub clean : firstFault (cutFault s) i ≡ noFault
   pub low-is : low ≡ above (cutBoundary s) i
   pub marks-are : marks ≡ full (withCuts s i) .marks
 
@@ -44,7 +44,7 @@ module _ {s marks : List ℕ} {low i : ℕ} (r : CutsRead s marks low i) (l : cu
     cut-outside o = simp (le-ltb (length s) (cutOffset s i + 2) l, tested, le-ltb (cutBoundary s i) low h, lt-ltb (daysOf s) (cutBoundary s i) o)
 
     module _ (b : cutBoundary s i ≤ daysOf s) where
-      cut-clean : cutFault s i ≡ none
+      cut-clean : cutFault s i ≡ noFault
       cut-clean = simp (le-ltb (length s) (cutOffset s i + 2) l, tested, le-ltb (cutBoundary s i) low h, le-ltb (daysOf s) (cutBoundary s i) b)
 
       inside : cutBoundary s i < length (withCuts s i .marks)
@@ -60,7 +60,7 @@ module _ {s marks : List ℕ} {low i : ℕ} (r : CutsRead s marks low i) (l : cu
           }
 
 -- a fault at cut i is the first of its section
-pub cut-stops : {s marks lent : List ℕ} {low i number place : ℕ} {p : Progress} → CutsRead s marks low i → i < cutsLength s → 0 < number
-    → p ≡ record { number = number; place = place; days = 0; next = 0 } → told number place ≡ cutFault s i → Closed s (firstFault (cutFault s) (cutsLength s)) p lent
+pub cut-stops : {s marks lent : List ℕ} {low i number place : ℕ} {p : SectionEnd} → CutsRead s marks low i → i < cutsLength s → 0 < number
+    → p ≡ record { number = number; place = place; days = 0; next = 0 } → told number place ≡ cutFault s i → CutsMet s (firstFault (cutFault s) (cutsLength s)) p lent
 cut-stops {s} {i = i} {number = number} {place = place} r h l e t =
     record { reached = stops l e (first-told (cutFault s) (cutsLength s) i number place h (r .clean) (λ z. omega arith) t); marks-are = λ z. absurd (met l e z) }

@@ -8,19 +8,19 @@ use lib.ListN.{length, set, take}
 use lib.Seq.{take-suc-set}
 use Rattle.casefile.specs.Bytes.{signed16}
 use Rattle.casefile.specs.Case.{meanOffset, firstMeans}
-use Rattle.casefile.specs.Faults.{none, firstFault, meanFault}
+use Rattle.casefile.specs.Faults.{noFault, firstFault, meanFault}
 use Rattle.casefile.proofs.Faults.{first-more}
 
 -- the first i means have no fault and stand in the buffer
 pub record MeansRead (s : List ℕ) (means : List ℤ) (i : ℕ) : Type 0 where
-  pub clean : firstFault (meanFault s) i ≡ none
+  pub clean : firstFault (meanFault s) i ≡ noFault
   pub read : take i means ≡ firstMeans s i
 
 pub means-none : (s : List ℕ) (means : List ℤ) → MeansRead s means 0
 unfolding firstFault firstMeans
 means-none s means = record { clean = refl; read = refl }
 
-pub means-more : {s : List ℕ} {means : List ℤ} {i : ℕ} → MeansRead s means i → i < length means → meanFault s i ≡ none
+pub means-more : {s : List ℕ} {means : List ℤ} {i : ℕ} → MeansRead s means i → i < length means → meanFault s i ≡ noFault
     → MeansRead s (set means i (signed16 s (meanOffset i))) (i + 1)
 unfolding firstMeans
 means-more {s} {means} {i} r l e =

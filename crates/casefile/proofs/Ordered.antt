@@ -10,7 +10,7 @@ use native.Mathlib.Decide.{decLt}
 use borrow.Author.Tests.{ltb-true, ltb-false, lt-ltb, le-ltb, eq-eqb, ne-eqb, eqb-true}
 use lib.Dec.{ltb, eqb}
 use Rattle.profile.specs.Rows.{row}
-use Rattle.account.specs.Below.{some}
+use Rattle.account.specs.Below.{somewhere}
 use Rattle.account.specs.Stands.{Stands, Readings, withReading, lastLessFirst}
 use Rattle.account.specs.Account.{energyMost}
 use Rattle.account.specs.Refusals.{outOfOrder, tooMuch, readingRows}
@@ -123,7 +123,7 @@ module _ {s : List ℕ} {i : ℕ} (st : Stands) (o : Orderly s i (st .readings))
   -- the rows that the table asks of the reading
   pub reading-rows : readingRows (daysOf s) st (readingBoundary s i) (readingCount s i) ≡
       row (ltb (daysOf s) (readingBoundary s i)) 6
-      (row (some (λ j. ltb (readingCount s i) (readingCount s j)) i) 8
+      (row (somewhere (λ j. ltb (readingCount s i) (readingCount s j)) i) 8
       (row (ltb energyMost (readingCount s i - readingCount s 0)) 9
       0))
   reading-rows = go (decLt (daysOf s) (readingBoundary s i)) (decLt (readingCount s i) (before (readingCount s) i))
@@ -132,7 +132,7 @@ module _ {s : List ℕ} {i : ℕ} (st : Stands) (o : Orderly s i (st .readings))
       top j l = let e = o .each j l in omega (arith, e .1, o .most _ (e .0))
 
       go : Dec (daysOf s < readingBoundary s i) → Dec (readingCount s i < before (readingCount s) i) → readingRows (daysOf s) st (readingBoundary s i) (readingCount s i) ≡
-          row (ltb (daysOf s) (readingBoundary s i)) 6 (row (some (λ j. ltb (readingCount s i) (readingCount s j)) i) 8 (row (ltb energyMost (readingCount s i - readingCount s 0)) 9 0))
+          row (ltb (daysOf s) (readingBoundary s i)) 6 (row (somewhere (λ j. ltb (readingCount s i) (readingCount s j)) i) 8 (row (ltb energyMost (readingCount s i - readingCount s 0)) 9 0))
       go (yes l) d = simp (lt-ltb (daysOf s) (readingBoundary s i) l)
       go (no n) (yes l) = simp (
         le-ltb (daysOf s) (readingBoundary s i) (omega arith),

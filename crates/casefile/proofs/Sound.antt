@@ -13,7 +13,7 @@ use Rattle.profile.specs.Limits.{weightLeast, weightMost, spanMost}
 use Rattle.weights.specs.Weights.{weightsOf, Ready}
 use Rattle.weights.proofs.Span.{weights-length}
 use Rattle.weights.proofs.Table.{weights-bounded}
-use Rattle.account.specs.Below.{some}
+use Rattle.account.specs.Below.{somewhere}
 use Rattle.account.specs.Stands.{Stands, nothing}
 use Rattle.account.specs.Account.{Account, days, shown, unfit, sound, goodWeights, energyMost}
 use Rattle.profile.specs.Rows.{row}
@@ -25,13 +25,13 @@ use Rattle.account.proofs.Sound.{sound-parts}
 use Rattle.account.proofs.Rows.{Checked, rows-through}
 use Rattle.account.proofs.Keeps.{Holds, open-keeps, reading-keeps, cut-keeps}
 use Rattle.casefile.specs.Case.{profileByte, weekdayByte, meansLength, meansOf, daysOf, readingsOffset, readingsLength, readingOffset, readingBoundary, readingCount, cutsOffset, cutsLength, cutOffset, cutBoundary, endOf, emptyCase, withReadings, withCuts, accountOf}
-use Rattle.casefile.specs.Faults.{none, fault, firstFault, falls, readingFault, cutFault, faultOf, headFault, meansFault, readingsFault, cutsFault}
+use Rattle.casefile.specs.Faults.{noFault, fault, firstFault, falls, readingFault, cutFault, faultOf, headFault, meansFault, readingsFault, cutsFault}
 use Rattle.casefile.proofs.Items.{above, before, Sane, sane}
 use Rattle.casefile.proofs.Ordered.{climbs, Orderly, more, reading-rows}
 use Rattle.casefile.specs.Sections.{spanFault, filedFault}
 use Rattle.casefile.specs.Reader.{faultNumber, CaseSound, CaseTaken}
 use Rattle.casefile.proofs.Faults.{number-of, number-before, none-both, no-fault, passes, none-before, first-few}
-use Rattle.casefile.proofs.Filed.{Kept, readings-kept, cuts-kept, uncut}
+use Rattle.casefile.proofs.Kept.{Kept, readings-kept, cuts-kept, uncut}
 use Rattle.casefile.proofs.Chained.{span-none, in-order}
 use Rattle.casefile.proofs.Weighing.{GoodSpan, head-none, means-in, means-length}
 
@@ -42,13 +42,13 @@ holds-up s (suc i) g =
     ltb-false (readingCount s (suc i)) (readingCount s i) (none-at (λ j. ltb (readingCount s (suc i)) (readingCount s j)) (suc i) (g .ordered) i (omega arith))
 
 -- the weights of a span that is read without a fault are sound
-span-weights : (s : List ℕ) → spanFault s ≡ none → goodWeights (weightsOf (profileByte s) (weekdayByte s) (meansOf s)) ≡ true
+span-weights : (s : List ℕ) → spanFault s ≡ noFault → goodWeights (weightsOf (profileByte s) (weekdayByte s) (meansOf s)) ≡ true
 unfolding goodWeights
 span-weights s e =
     let f = none-both (headFault s) (meansFault s) e in
     let h = head-none s (f .0) in
     let ready : Ready (profileByte s) (weekdayByte s) (meansOf s) =
-    record { profiled = omega (arith, h .profiled); dated = omega (arith, h .dated); measured = means-in s (meansLength s) (f .1) } in
+    record { profile-known = omega (arith, h .profile-known); weekday-known = omega (arith, h .weekday-known); means-in-range = means-in s (meansLength s) (f .1) } in
     every-is _ _ λ d l.
     let w = weights-bounded (profileByte s) (weekdayByte s) (meansOf s) ready d (omega (arith, weights-length (profileByte s) (weekdayByte s) (meansOf s))) in
     simp (le-leb weightLeast (getD (weightsOf (profileByte s) (weekdayByte s) (meansOf s)) d 0) (w .0), le-leb (getD (weightsOf (profileByte s) (weekdayByte s) (meansOf s)) d 0) weightMost (w .1))
@@ -67,7 +67,7 @@ kept-fits s a k g =
     )
 
 -- before the first reading nothing stands
-empty-holds : (s : List ℕ) → spanFault s ≡ none → Holds (emptyCase s .weights) nothing (emptyCase s)
+empty-holds : (s : List ℕ) → spanFault s ≡ noFault → Holds (emptyCase s .weights) nothing (emptyCase s)
 unfolding withReadings
 empty-holds s e =
     let same : cleared (emptyCase s) ≡ emptyCase s = rw length-replicate refl in
@@ -87,11 +87,11 @@ reading-number s i r long rising =
     rw (le-ltb (length s) (readingOffset s i + 10) long, rising, days-kept s a (readings-kept s i))
     (number-before (ltb (daysOf s) (readingBoundary s i)) 6 _ _ ∙
     ap (row (ltb (daysOf s) (readingBoundary s i)) 6)
-    (number-before (some (λ j. ltb (readingCount s i) (readingCount s j)) i) 8 _ _ ∙
-    ap (row (some (λ j. ltb (readingCount s i) (readingCount s j)) i) 8) (number-of (ltb energyMost (readingCount s i - readingCount s 0)) 9 _)) ∙
+    (number-before (somewhere (λ j. ltb (readingCount s i) (readingCount s j)) i) 8 _ _ ∙
+    ap (row (somewhere (λ j. ltb (readingCount s i) (readingCount s j)) i) 8) (number-of (ltb energyMost (readingCount s i - readingCount s 0)) 9 _)) ∙
     sym (reading-rows (shown a) (r .orderly) rising))
 
-pub readings-sound : (s : List ℕ) → spanFault s ≡ none → (i : ℕ) → firstFault (readingFault s) i ≡ none → Read s i
+pub readings-sound : (s : List ℕ) → spanFault s ≡ noFault → (i : ℕ) → firstFault (readingFault s) i ≡ noFault → Read s i
 unfolding withReadings firstFault
 readings-sound s e zero f =
     let h = empty-holds s e in
@@ -130,7 +130,7 @@ pub record SaneCut (s : List ℕ) (i : ℕ) : Type 0 where
   pub rising : falls (cutBoundary s) i ≡ false
   pub inside : cutBoundary s i ≤ daysOf s
 
-pub sane-cut : (s : List ℕ) (i : ℕ) → cutFault s i ≡ none → SaneCut s i
+pub sane-cut : (s : List ℕ) (i : ℕ) → cutFault s i ≡ noFault → SaneCut s i
 sane-cut s i e =
     let f1 = passes (ltb (length s) (cutOffset s i + 2)) 13 (length s) _ e in
     let f2 = passes (falls (cutBoundary s) i) 13 (cutOffset s i) _ (f1 .1) in
@@ -145,7 +145,7 @@ cut-number s i p long rising =
     let free = refuted (shown a .cut b) (λ t. omega (arith, p .below b t, climbs (cutBoundary s) i rising)) in
     rw (le-ltb (length s) (cutOffset s i + 2) long, rising, days-kept s a (cuts-kept s i), free) (number-of (ltb (daysOf s) b) 6 _)
 
-pub cuts-sound : (s : List ℕ) → Read s (readingsLength s) → (i : ℕ) → firstFault (cutFault s) i ≡ none → Cut s i
+pub cuts-sound : (s : List ℕ) → Read s (readingsLength s) → (i : ℕ) → firstFault (cutFault s) i ≡ noFault → Cut s i
 unfolding withCuts firstFault
 cuts-sound s r zero f = record { checked = r .checked; below = λ j t. absurd (clash t (uncut s (readingsLength s) j)) }
 cuts-sound s r (suc i) f =
@@ -166,12 +166,12 @@ cut-agrees s i p long rising = cut-number s i p long rising ∙ sym (rows-throug
 
 -- the parts of a file without a fault have none
 pub record Clean (s : List ℕ) : Type 0 where
-  pub span : spanFault s ≡ none
-  pub readings : firstFault (readingFault s) (readingsLength s) ≡ none
-  pub cuts : firstFault (cutFault s) (cutsLength s) ≡ none
-  pub ended : fault (ltb (endOf s) (length s)) 13 (endOf s) ≡ none
+  pub span : spanFault s ≡ noFault
+  pub readings : firstFault (readingFault s) (readingsLength s) ≡ noFault
+  pub cuts : firstFault (cutFault s) (cutsLength s) ≡ noFault
+  pub ended : fault (ltb (endOf s) (length s)) 13 (endOf s) ≡ noFault
 
-pub clean-of : (s : List ℕ) → faultOf s ≡ none → Clean s
+pub clean-of : (s : List ℕ) → faultOf s ≡ noFault → Clean s
 clean-of s e =
     let f = none-both (filedFault s) (cutsFault s) (in-order s ∙ e) in
     let g = none-both (spanFault s) (readingsFault s) (f .0) in

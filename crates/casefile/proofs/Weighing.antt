@@ -1,7 +1,7 @@
 -- What a head and means without a fault show, and the weights that they give (Case file). Assumes nothing.
 use Prim.Native.Nat.{ℕ, zero, suc, _+_, _-_, _≤_, _<_}
 use mathlib.Core.Path.{_≡_, refl, sym, _∙_, ap}
-use mathlib.Core.Bool.{Bool, true, false, not, _&&_}
+use mathlib.Core.Bool.{Bool, true, false, cond, not, _&&_}
 use mathlib.Core.List.{List, [], _∷_, _++_}
 use native.Mathlib.Omega.{arith}
 use native.Mathlib.Numerals.{add-one}
@@ -10,18 +10,17 @@ use lib.Dec.{ltb, leb, leb·suc-suc}
 use lib.IntN.{ℤ}
 use lib.ListN.{length, take, drop, replicate, length-append, length-drop, length-replicate, getD-replicate}
 use lib.Seq.{ext-getD, getD-drop, length-take-le}
-use Rattle.profile.specs.Limits.{inRange, spanMost, profileCount}
-use Rattle.account.specs.Account.{badSpan}
+use Rattle.profile.specs.Limits.{inRange, spanMost, profileCount, badSpan}
 use Rattle.account.proofs.Below.{both}
-use Rattle.profile.specs.Rows.{row, filled}
+use Rattle.profile.specs.Rows.{filled}
 use Rattle.weights.specs.Means.{firstOut, someOut}
 use Rattle.weights.specs.Weights.{weightsOf, WeightsMet}
 use Rattle.weights.proofs.Span.{weights-length}
 use Rattle.weights.specs.declared.WeightsAnswer.{WeightsAnswer}
-use Rattle.casefile.specs.declared.sections.Progress.{Progress}
+use Rattle.casefile.specs.declared.sections.SectionEnd.{SectionEnd}
 use Rattle.casefile.specs.Bytes.{byte, signed16}
 use Rattle.casefile.specs.Case.{profileByte, weekdayByte, meansLength, meanOffset, firstMeans, meansOf, daysOf}
-use Rattle.casefile.specs.Faults.{none, _before_, fault, firstFault, meanFault, headFault, meansFault}
+use Rattle.casefile.specs.Faults.{noFault, _before_, fault, firstFault, meanFault, headFault, meansFault}
 use Rattle.casefile.specs.Sections.{Reached, Clear, MeansMet, SpanMet, Weighable}
 use Rattle.casefile.proofs.Faults.{no-fault, passes, none-before, clean, stays, joins}
 
@@ -36,12 +35,12 @@ good-span n e =
 
 -- a head without a fault
 pub record Head (s : List ℕ) : Type 0 where
-  pub profiled : profileByte s < profileCount
-  pub dated : weekdayByte s ≤ 6
+  pub profile-known : profileByte s < profileCount
+  pub weekday-known : weekdayByte s ≤ 6
   pub long : 4 ≤ length s
   pub span : GoodSpan (daysOf s)
 
-pub head-none : (s : List ℕ) → headFault s ≡ none → Head s
+pub head-none : (s : List ℕ) → headFault s ≡ noFault → Head s
 head-none s e =
     let f1 = passes (ltb (length s) 1) 13 (length s) _ e in
     let f2 = passes (leb profileCount (profileByte s)) 1 0 _ (f1 .1) in
@@ -49,8 +48,8 @@ head-none s e =
     let f4 = passes (ltb 6 (weekdayByte s)) 2 1 _ (f3 .1) in
     let f5 = passes (ltb (length s) 4) 13 (length s) _ (f4 .1) in
     record {
-      profiled = leb-false _ _ (f2 .0);
-      dated = ltb-false _ _ (f4 .0);
+      profile-known = leb-false _ _ (f2 .0);
+      weekday-known = ltb-false _ _ (f4 .0);
       long = ltb-false _ _ (f5 .0);
       span = good-span (daysOf s) (no-fault (badSpan (daysOf s)) 3 2 (f5 .1));
     }
@@ -61,17 +60,17 @@ means-length s zero = refl
 means-length s (suc i) = length-append (firstMeans s i) _ ∙ add-one _ ∙ ap suc (means-length s i)
 
 -- one more mean
-out-more : (xs : List ℤ) (t : ℤ) → firstOut (xs ++ (t ∷ [])) ≡ row (someOut xs) (firstOut xs) (row (inRange t) (suc (length xs)) (length xs))
+out-more : (xs : List ℤ) (t : ℤ) → firstOut (xs ++ (t ∷ [])) ≡ cond (someOut xs) (firstOut xs) (cond (inRange t) (suc (length xs)) (length xs))
 out-more [] t = refl
 out-more (x ∷ xs) t = go (inRange x) (out-more xs t)
   where
-    inner : (a b : Bool) (i j k : ℕ) → suc (row a i (row b j k)) ≡ row a (suc i) (row b (suc j) (suc k))
+    inner : (a b : Bool) (i j k : ℕ) → suc (cond a i (cond b j k)) ≡ cond a (suc i) (cond b (suc j) (suc k))
     inner true b i j k = refl
     inner false true i j k = refl
     inner false false i j k = refl
 
-    go : (b : Bool) → firstOut (xs ++ (t ∷ [])) ≡ row (someOut xs) (firstOut xs) (row (inRange t) (suc (length xs)) (length xs))
-        → row b (suc (firstOut (xs ++ (t ∷ [])))) 0 ≡ row (ltb (row b (suc (firstOut xs)) 0) (suc (length xs))) (row b (suc (firstOut xs)) 0) (row (inRange t) (suc (suc (length xs))) (suc (length xs)))
+    go : (b : Bool) → firstOut (xs ++ (t ∷ [])) ≡ cond (someOut xs) (firstOut xs) (cond (inRange t) (suc (length xs)) (length xs))
+        → cond b (suc (firstOut (xs ++ (t ∷ [])))) 0 ≡ cond (ltb (cond b (suc (firstOut xs)) 0) (suc (length xs))) (cond b (suc (firstOut xs)) 0) (cond (inRange t) (suc (suc (length xs))) (suc (length xs)))
     go true e = rw (leb·suc-suc (suc (firstOut xs)) (length xs)) (ap suc e ∙ inner (someOut xs) (inRange t) _ _ _)
     go false e = rw (lt-ltb 0 (suc (length xs)) (omega arith)) refl
 
@@ -87,13 +86,13 @@ means-out s (suc i) l =
   where
     go : (a b : Bool) → ltb (firstOut (firstMeans s i)) i ≡ a →
         (fault a 4 (meanOffset (firstOut (firstMeans s i))) before fault (not b) 4 (meanOffset i)) ≡
-        fault (ltb (row a (firstOut (firstMeans s i)) (row b (suc i) i)) (suc i)) 4 (meanOffset (row a (firstOut (firstMeans s i)) (row b (suc i) i)))
+        fault (ltb (cond a (firstOut (firstMeans s i)) (cond b (suc i) i)) (suc i)) 4 (meanOffset (cond a (firstOut (firstMeans s i)) (cond b (suc i) i)))
     go true b e = rw (lt-ltb (firstOut (firstMeans s i)) (suc i) (omega (arith, ltb-true (firstOut (firstMeans s i)) i e))) refl
     go false true e = rw (le-ltb (suc i) (suc i) (omega arith)) refl
     go false false e = rw (lt-ltb i (suc i) (omega arith)) refl
 
 -- means without a fault are all in range
-pub means-in : (s : List ℕ) (i : ℕ) → firstFault (meanFault s) i ≡ none → someOut (firstMeans s i) ≡ false
+pub means-in : (s : List ℕ) (i : ℕ) → firstFault (meanFault s) i ≡ noFault → someOut (firstMeans s i) ≡ false
 unfolding firstMeans
 means-in s zero e = refl
 means-in s (suc i) e =
@@ -114,13 +113,13 @@ weighs {profile} {weekday} {days} {means} {lent} {after} w m =
     let room : length (take days lent) ≡ days = length-take-le days lent (omega (arith, w .clear .long)) in
     let n = length (take (days + 3) means) - 3 in
     let full : after ≡ weightsOf profile weekday (take (days + 3) means) =
-    m .after-is ∙ simp (le-leb 1 n (omega arith), le-leb n spanMost (omega arith), eq-eqb (length (take days lent)) n (omega arith), lt-leb profileCount profile (omega arith), le-ltb 6 weekday (omega arith), w .measured) in
+    m .writes ∙ simp (le-leb 1 n (omega arith), le-leb n spanMost (omega arith), eq-eqb (length (take days lent)) n (omega arith), lt-leb profileCount profile (omega arith), le-ltb 6 weekday (omega arith), w .means-in-range) in
     let rest : drop days lent ≡ replicate (spanMost - days) 0 = ap (drop days) (w .clear .zeros) ∙ drop-zeros days (length lent) ∙ ap (λ (n : ℕ). replicate (n - days) 0) (w .clear .long) in
     let long : length (weightsOf profile weekday (take (days + 3) means)) ≡ days = weights-length profile weekday (take (days + 3) means) ∙ omega arith in
     rw (full, rest, long) refl
 
 -- from the head, at the start of the file, over the means to the weights
-module _ (s : List ℕ) {head : Progress} (h : Reached (headFault s) (daysOf s) 4 head) where
+module _ (s : List ℕ) {head : SectionEnd} (h : Reached (headFault s) (daysOf s) 4 head) where
   pub head-fault : (weights : List ℕ) → (head .number ≡ 0 → ⊥) → SpanMet s head weights
   head-fault weights n = record { reached = stays (meansFault s) h n; weighed = λ z. absurd (n z) }
 
@@ -135,7 +134,7 @@ module _ (s : List ℕ) {head : Progress} (h : Reached (headFault s) (daysOf s) 
         let most = known .span .most in
         (h .next-is z, omega arith, omega arith, omega arith, refl)
 
-    module _ {span : Progress} {means : List ℤ} (m : MeansMet s span means) where
+    module _ {span : SectionEnd} {means : List ℤ} (m : MeansMet s span means) where
       pub means-fault : (weights : List ℕ) → (span .number ≡ 0 → ⊥) → SpanMet s span weights
       means-fault weights n = record { reached = joins h z (m .reached); weighed = λ e. absurd (n e) }
 
@@ -151,12 +150,12 @@ module _ (s : List ℕ) {head : Progress} (h : Reached (headFault s) (daysOf s) 
         weighable l c =
             let d = m .reached .days-are y in
             record {
-              profiled = known .profiled;
-              dated = known .dated;
+              profile-known = known .profile-known;
+              weekday-known = known .weekday-known;
               least = rw d (known .span .least);
               most = rw d (known .span .most);
               enough = omega (arith, known .span .most);
-              measured = rw first-means (means-in s (meansLength s) (clean (m .reached) y));
+              means-in-range = rw first-means (means-in s (meansLength s) (clean (m .reached) y));
               clear = c;
             }
 

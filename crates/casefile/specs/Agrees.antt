@@ -7,24 +7,24 @@ use mathlib.Core.List.{List}
 use lib.Dec.{ltb}
 use lib.IntN.{pos}
 use lib.ListN.{length, replicate}
+use Rattle.profile.specs.Limits.{badSpan}
 use Rattle.profile.specs.Rows.{row, ifDone}
-use Rattle.profile.specs.Answers.{weightRefusal}
+use Rattle.profile.specs.Answers.{weightNumber}
 use Rattle.weights.specs.Means.{firstOut, someOut}
-use Rattle.weights.specs.Weights.{Outcome, outcome}
-use Rattle.account.specs.Account.{badSpan}
+use Rattle.weights.specs.Weights.{Ruling, ruling}
 use Rattle.account.specs.Refusals.{readingNumber, cutNumber}
 use Rattle.casefile.specs.Case.{profileByte, weekdayByte, meanOffset, firstMeans, meansOf, daysOf, readingsOffset, readingOffset, readingBoundary, readingCount, cutOffset, cutBoundary, withReadings, withCuts}
-use Rattle.casefile.specs.Faults.{none, fault, firstFault, falls, headFault, meanFault, readingFault, cutFault}
+use Rattle.casefile.specs.Faults.{noFault, fault, firstFault, falls, headFault, meanFault, readingFault, cutFault}
 use Rattle.casefile.specs.Reader.{faultNumber}
 use Rattle.casefile.specs.Sections.{spanFault, filedFault}
 
 -- the weights call over profile, weekday and means
-abbrev pub weighing : List ℕ → Outcome
-weighing s = outcome (profileByte s) (weekdayByte s) (meansOf s) (replicate (daysOf s) 0)
+abbrev pub weighing : List ℕ → Ruling
+weighing s = ruling (profileByte s) (weekdayByte s) (meansOf s) (replicate (daysOf s) 0)
 
 -- rows 1 and 2, as the day weight call has them for a mean in range
 abbrev pub dayNumber : List ℕ → ℕ
-dayNumber s = weightRefusal (profileByte s) (weekdayByte s) (pos 0)
+dayNumber s = weightNumber (profileByte s) (weekdayByte s) (pos 0)
 
 -- they come first in a file, then the number that the rest gives
 abbrev pub afterDay : List ℕ → ℕ → ℕ
@@ -40,10 +40,10 @@ pub record FileAgrees : Type 0 where
   -- both, all there: the weights call, which asks row 3 before rows 1 and 2
   pub span : (s : List ℕ) → readingsOffset s ≤ length s → faultNumber (spanFault s) ≡ afterDay s (weighing s .number)
   -- a reading that is all there and rises, nothing before it having a fault: the reading call
-  pub reading : (s : List ℕ) (i : ℕ) → spanFault s ≡ none → firstFault (readingFault s) i ≡ none →
+  pub reading : (s : List ℕ) (i : ℕ) → spanFault s ≡ noFault → firstFault (readingFault s) i ≡ noFault →
       readingOffset s i + 10 ≤ length s → falls (readingBoundary s) i ≡ false →
       faultNumber (readingFault s i) ≡ readingNumber (withReadings s i) (readingBoundary s i) (readingCount s i)
   -- a cut, likewise: the cut call
-  pub cut : (s : List ℕ) (i : ℕ) → filedFault s ≡ none → firstFault (cutFault s) i ≡ none →
+  pub cut : (s : List ℕ) (i : ℕ) → filedFault s ≡ noFault → firstFault (cutFault s) i ≡ noFault →
       cutOffset s i + 2 ≤ length s → falls (cutBoundary s) i ≡ false →
       faultNumber (cutFault s i) ≡ cutNumber (withCuts s i) (cutBoundary s i)

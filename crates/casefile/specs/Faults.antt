@@ -5,31 +5,31 @@ use mathlib.Core.Bool.{Bool, true, false, not}
 use mathlib.Core.List.{List}
 use lib.Dec.{leb, ltb}
 use lib.ListN.{length}
-use Rattle.profile.specs.Limits.{profileCount, inRange}
-use Rattle.account.specs.Below.{some}
-use Rattle.account.specs.Account.{badSpan, energyMost}
+use Rattle.profile.specs.Limits.{profileCount, inRange, badSpan}
+use Rattle.account.specs.Below.{somewhere}
+use Rattle.account.specs.Account.{energyMost}
 use Rattle.casefile.specs.Bytes.{signed16}
 use Rattle.casefile.specs.Case.{profileByte, weekdayByte, meansLength, meanOffset, daysOf, readingsOffset, readingsLength, readingOffset, readingBoundary, readingCount, cutsOffset, cutsLength, cutOffset, cutBoundary, endOf}
 
 -- no fault, or a refusal with its number and its place
 pub data Fault : Type 0 where
-  none : Fault
+  noFault : Fault
   refused : (number place : ℕ) → Fault
 
 -- the first of two faults, in this order
 infixr 20 _before_
 abbrev pub _before_ : Fault → Fault → Fault
-none before g = g
+noFault before g = g
 refused n k before g = refused n k
 
 -- a fault of this number at this place where the condition holds
 abbrev pub fault : Bool → ℕ → ℕ → Fault
 fault true number place = refused number place
-fault false number place = none
+fault false number place = noFault
 
 -- the first fault of the items 0 to m-1
 unfoldable pub firstFault : (ℕ → Fault) → ℕ → Fault
-firstFault f zero = none
+firstFault f zero = noFault
 firstFault f (suc m) = firstFault f m before f m
 
 -- 13: "file ends early (place: its length)", an item running up to the offset `to`
@@ -46,13 +46,13 @@ meanFault s i =
     early s (meanOffset i + 2) before
     fault (not (inRange (signed16 s (meanOffset i)))) 4 (meanOffset i)
 
--- boundaries rise, so only earlier readings can be out of order with it, and it is the last: the first is reading 0
+-- boundaries rise, so every other reading is earlier (8), the first is reading 0 and the last is this one (9)
 abbrev pub readingFault : List ℕ → ℕ → Fault
 readingFault s i =
     early s (readingOffset s i + 10) before
     fault (falls (readingBoundary s) i) 13 (readingOffset s i) before
     fault (ltb (daysOf s) (readingBoundary s i)) 6 (readingOffset s i) before
-    fault (some (λ j. ltb (readingCount s i) (readingCount s j)) i) 8 (readingOffset s i + 2) before
+    fault (somewhere (λ j. ltb (readingCount s i) (readingCount s j)) i) 8 (readingOffset s i + 2) before
     fault (ltb energyMost (readingCount s i - readingCount s 0)) 9 (readingOffset s i + 2)
 
 abbrev pub cutFault : List ℕ → ℕ → Fault

@@ -3,7 +3,7 @@ use Prim.Native.Nat.{ℕ, _≤_, _<_}
 use mathlib.Core.Path.{_≡_}
 use mathlib.Core.List.{List}
 use lib.ListN.{length, getD, take}
-use Rattle.casefile.specs.Faults.{none, faultOf}
+use Rattle.casefile.specs.Faults.{noFault, faultOf}
 
 abbrev pub fileMost : ℕ
 fileMost = 15_370
@@ -16,11 +16,11 @@ pub record Taken (size : ℕ) : Type 0 where
   pub file : List ℕ
   pub bytes : (i : ℕ) → i < length file → getD file i 0 < 256
   pub long : length file ≡ size
-  pub whole : faultOf file ≡ none
+  pub whole : faultOf file ≡ noFault
 
 -- a file without a fault is no longer than that, and one is that long (proofs/Longest, `longest`)
 pub record LongestFile : Type 0 where
-  pub most : (s : List ℕ) → faultOf s ≡ none → length s ≤ fileMost
+  pub most : (s : List ℕ) → faultOf s ≡ noFault → length s ≤ fileMost
   pub reached : Taken fileMost
 
 -- reading no more than 16,384 bytes changes neither number nor place of the verdict (proofs/Enough, `enough`)

@@ -1,3 +1,4 @@
+-- What the contracts and claims of crate casefile cite (Case file, If a call declines).
 pub mod Bytes
 pub mod Case
 pub mod Faults

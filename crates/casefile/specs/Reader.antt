@@ -14,7 +14,7 @@ use Rattle.casefile.specs.declared.CaseAnswer.{CaseAnswer}
 use Rattle.casefile.specs.declared.CaseAnswer.the-variants.{Days, Refused}
 use Rattle.account.specs.Refusals.{openNumber, readingNumber, cutNumber}
 use Rattle.casefile.specs.Case.{accountOf, daysOf, emptyCase, withReadings, withCuts, readingsLength, readingBoundary, readingCount, cutsLength, cutBoundary}
-use Rattle.casefile.specs.Faults.{Fault, none, refused, faultOf}
+use Rattle.casefile.specs.Faults.{Fault, noFault, refused, faultOf}
 
 -- the number, the place and n of each answer; 0 is done, a refused n is 0
 abbrev pub number : CaseAnswer → ℕ
@@ -30,11 +30,11 @@ days (Days n) = n
 days (Refused r at) = 0
 
 abbrev pub faultNumber : Fault → ℕ
-faultNumber none = 0
+faultNumber noFault = 0
 faultNumber (refused r at) = r
 
 abbrev pub faultPlace : Fault → ℕ
-faultPlace none = 0
+faultPlace noFault = 0
 faultPlace (refused r at) = at
 
 -- a slice is not as long as the reader asks: 1,096 weights, 1,097 marks, 1,097 counts
@@ -61,20 +61,20 @@ slicesAfter s lent =
     (allZero lent))
 
 pub record ReadMet (file : List ℕ) (lent : Account) (answer : CaseAnswer) (after : Account) (kept : List ℕ) : Type 0 where
-  pub numbers : number answer ≡ faultNumber (verdict file lent)
+  pub answers : number answer ≡ faultNumber (verdict file lent)
   pub places : place answer ≡ faultPlace (verdict file lent)
-  pub returns : days answer ≡ ifDone (faultNumber (verdict file lent)) (daysOf file) 0
-  pub fills : after ≡ slicesAfter file lent
-  pub keeps : kept ≡ file
+  pub gives : days answer ≡ ifDone (faultNumber (verdict file lent)) (daysOf file) 0
+  pub writes : after ≡ slicesAfter file lent
+  pub stays : kept ≡ file
 
 -- a file that the reader takes gives an account that every account call finds fitting and sound, and it has n days (proofs/Sound, `case-sound`)
 abbrev pub CaseSound : Type 0
-CaseSound = (s : List ℕ) → faultOf s ≡ none → (unfit (accountOf s) ≡ false) × (sound (accountOf s) ≡ true) × (accounts.days (accountOf s) ≡ daysOf s)
+CaseSound = (s : List ℕ) → faultOf s ≡ noFault → (unfit (accountOf s) ≡ false) × (sound (accountOf s) ≡ true) × (accounts.days (accountOf s) ≡ daysOf s)
 
 -- .. and open, and each of its readings and cuts in turn, is a call that the account takes (`case-taken`)
 abbrev pub CaseTaken : Type 0
 CaseTaken =
-    (s : List ℕ) → faultOf s ≡ none →
+    (s : List ℕ) → faultOf s ≡ noFault →
     (openNumber (emptyCase s) ≡ 0) ×
     ((i : ℕ) → i < readingsLength s → readingNumber (withReadings s i) (readingBoundary s i) (readingCount s i) ≡ 0) ×
     ((i : ℕ) → i < cutsLength s → cutNumber (withCuts s i) (cutBoundary s i) ≡ 0)

@@ -10,16 +10,16 @@ use lib.ListN.{length, replicate, take}
 use Rattle.profile.specs.Limits.{profileCount, spanMost}
 use Rattle.account.specs.Account.{Account, energyMost}
 use Rattle.weights.specs.Means.{someOut}
-use Rattle.casefile.specs.declared.sections.Progress.{Progress}
+use Rattle.casefile.specs.declared.sections.SectionEnd.{SectionEnd}
 use Rattle.casefile.specs.declared.readings.Reading.{Reading}
 use Rattle.casefile.specs.Bytes.{number16, number64}
 use Rattle.casefile.specs.Case.{meansLength, meansOf, daysOf, readingsOffset, readingsLength, readingOffset, cutsOffset, cutsLength, cutOffset, endOf, emptyCase, withReadings, accountOf}
-use Rattle.casefile.specs.Faults.{Fault, none, refused, _before_, fault, early, headFault, meansFault, readingsFault, faultOf}
+use Rattle.casefile.specs.Faults.{Fault, noFault, refused, _before_, fault, early, headFault, meansFault, readingsFault, faultOf}
 use Rattle.casefile.specs.Reader.{full}
 
 -- the fault that a number and its place tell; 0 is none
 abbrev pub told : ℕ → ℕ → Fault
-told zero place = none
+told zero place = noFault
 told (suc number) place = refused (suc number) place
 
 -- the first fault up to the end of the means, and of the readings
@@ -30,13 +30,13 @@ abbrev pub filedFault : List ℕ → Fault
 filedFault s = spanFault s before readingsFault s
 
 -- the reader met the fault f, or, where that is none, has read n and stands at the offset `next`
-pub record Reached (f : Fault) (n next : ℕ) (p : Progress) : Type 0 where
+pub record Reached (f : Fault) (n next : ℕ) (p : SectionEnd) : Type 0 where
   pub tells : told (p .number) (p .place) ≡ f
   pub days-are : p .number ≡ 0 → p .days ≡ n
   pub next-is : p .number ≡ 0 → p .next ≡ next
 
 -- the means, or their fault
-pub record MeansMet (s : List ℕ) (p : Progress) (means : List ℤ) : Type 0 where
+pub record MeansMet (s : List ℕ) (p : SectionEnd) (means : List ℤ) : Type 0 where
   pub reached : Reached (meansFault s) (daysOf s) (readingsOffset s) p
   pub read : p .number ≡ 0 → take (meansLength s) means ≡ meansOf s
 
@@ -47,16 +47,16 @@ pub record Clear (n : ℕ) (lent : List ℕ) : Type 0 where
 
 -- profile, weekday and the first means give weights, and the lent slice is zero
 pub record Weighable (profile weekday : ℕ) (means : List ℤ) (days : ℕ) (lent : List ℕ) : Type 0 where
-  pub profiled : profile < profileCount
-  pub dated : weekday ≤ 6
+  pub profile-known : profile < profileCount
+  pub weekday-known : weekday ≤ 6
   pub least : 1 ≤ days
   pub most : days ≤ spanMost
   pub enough : days + 3 ≤ length means
-  pub measured : someOut (take (days + 3) means) ≡ false
+  pub means-in-range : someOut (take (days + 3) means) ≡ false
   pub clear : Clear spanMost lent
 
 -- profile, weekday and means with the weights that they give, or their fault
-pub record SpanMet (s : List ℕ) (p : Progress) (weights : List ℕ) : Type 0 where
+pub record SpanMet (s : List ℕ) (p : SectionEnd) (weights : List ℕ) : Type 0 where
   pub reached : Reached (spanFault s) (daysOf s) (readingsOffset s) p
   pub weighed : p .number ≡ 0 → weights ≡ full (emptyCase s) .weights
 
@@ -100,13 +100,13 @@ pub record ReadingsAsked (s : List ℕ) (at count n : ℕ) (marks counts : List 
   pub counts-long : length counts ≡ spanMost + 1
 
 -- the slices hold the readings, or the progress tells a fault of the file
-pub record Filed (s : List ℕ) (f : Fault) (p : Progress) (marks counts : List ℕ) : Type 0 where
+pub record ReadingsMet (s : List ℕ) (f : Fault) (p : SectionEnd) (marks counts : List ℕ) : Type 0 where
   pub reached : Reached f (daysOf s) (cutsOffset s) p
   pub marks-are : p .number ≡ 0 → marks ≡ full (withReadings s (readingsLength s)) .marks
   pub counts-are : p .number ≡ 0 → counts ≡ full (withReadings s (readingsLength s)) .counts
 
 -- the readings, after a span that is read or has a fault
-pub record ReadingsFrom (s : List ℕ) (at : ℕ) (so-far : Progress) (marks counts : List ℕ) : Type 0 where
+pub record ReadingsFrom (s : List ℕ) (at : ℕ) (so-far : SectionEnd) (marks counts : List ℕ) : Type 0 where
   pub reached : Reached (spanFault s) (daysOf s) (readingsOffset s) so-far
   pub follows : at ≡ so-far .next
   pub marks-clear : Clear (spanMost + 1) marks
@@ -124,12 +124,12 @@ pub record CutsAsked (s : List ℕ) (at count n : ℕ) (marks : List ℕ) : Type
   pub marks-long : length marks ≡ spanMost + 1
 
 -- the marks hold the readings and the cuts, or the progress tells a fault of the file
-pub record Closed (s : List ℕ) (f : Fault) (p : Progress) (marks : List ℕ) : Type 0 where
+pub record CutsMet (s : List ℕ) (f : Fault) (p : SectionEnd) (marks : List ℕ) : Type 0 where
   pub reached : Reached f (daysOf s) (endOf s) p
   pub marks-are : p .number ≡ 0 → marks ≡ full (accountOf s) .marks
 
 -- the cuts, after readings that are read or have a fault
-pub record CutsFrom (s : List ℕ) (at : ℕ) (so-far : Progress) (marks : List ℕ) : Type 0 where
+pub record CutsFrom (s : List ℕ) (at : ℕ) (so-far : SectionEnd) (marks : List ℕ) : Type 0 where
   pub reached : Reached (filedFault s) (daysOf s) (cutsOffset s) so-far
   pub follows : at ≡ so-far .next
   pub marks-are : so-far .number ≡ 0 → marks ≡ full (withReadings s (readingsLength s)) .marks
@@ -142,6 +142,6 @@ pub record AllClear (lent : Account) : Type 0 where
   pub counts : Clear (spanMost + 1) (lent .counts)
 
 -- the slices hold the account that the file names, or the progress tells the file's fault
-pub record FillMet (s : List ℕ) (p : Progress) (after : Account) : Type 0 where
+pub record FillMet (s : List ℕ) (p : SectionEnd) (after : Account) : Type 0 where
   pub reached : Reached (faultOf s) (daysOf s) (endOf s) p
   pub fills : p .number ≡ 0 → after ≡ full (accountOf s)

@@ -1,6 +1,6 @@
 // Slices set to zero over their whole length (If a call declines: "outputs zero").
 ghost use mathlib.Core.Path.{_≡_};
-ghost use lib.ListN.{length, replicate};
+ghost use Rattle.profile.specs.Rows.{zeros};
 ghost use Rattle.account.specs.Account.{account};
 ghost use Rattle.casefile.specs.Reader.{allZero};
 
@@ -14,7 +14,7 @@ pub(crate) fn clear(weights: &mut [u32], marks: &mut [u8], counts: &mut [u64])
 }
 
 fn clear_weights(weights: &mut [u32])
-    ensures { λ r. ⌜ now (weights .exit) ≡ replicate (length (now (weights .entry))) 0 ⌝ }
+    ensures { λ r. ⌜ now (weights .exit) ≡ zeros (now (weights .entry)) ⌝ }
 {
     let mut i = 0;
     while i < weights.len() {
@@ -24,7 +24,7 @@ fn clear_weights(weights: &mut [u32])
 }
 
 fn clear_marks(marks: &mut [u8])
-    ensures { λ r. ⌜ now (marks .exit) ≡ replicate (length (now (marks .entry))) 0 ⌝ }
+    ensures { λ r. ⌜ now (marks .exit) ≡ zeros (now (marks .entry)) ⌝ }
 {
     let mut i = 0;
     while i < marks.len() {
@@ -34,7 +34,7 @@ fn clear_marks(marks: &mut [u8])
 }
 
 fn clear_counts(counts: &mut [u64])
-    ensures { λ r. ⌜ now (counts .exit) ≡ replicate (length (now (counts .entry))) 0 ⌝ }
+    ensures { λ r. ⌜ now (counts .exit) ≡ zeros (now (counts .entry)) ⌝ }
 {
     let mut i = 0;
     while i < counts.len() {

@@ -4,9 +4,9 @@ ghost use mathlib.Core.Bool.{true};
 ghost use Rattle.account.specs.Account.{marksReading, markOf};
 ghost use Rattle.casefile.specs.Case.{cutsLength};
 ghost use Rattle.casefile.specs.Faults.{firstFault, cutFault, faultOf};
-ghost use Rattle.casefile.specs.Sections.{CutsAsked, CutsFrom, Closed};
+ghost use Rattle.casefile.specs.Sections.{CutsAsked, CutsFrom, CutsMet};
 use crate::bytes::number16;
-use crate::sections::Progress;
+use crate::sections::SectionEnd;
 use crate::sections::passed;
 use crate::sections::refused;
 
@@ -24,9 +24,9 @@ fn with_cut(mark: u8) -> u8
 }
 
 // Each cut from an offset on, up to the first fault.
-fn each_cut(file: &[u8], at: usize, count: usize, days: usize, marks: &mut [u8]) -> Progress
+fn each_cut(file: &[u8], at: usize, count: usize, days: usize, marks: &mut [u8]) -> SectionEnd
     requires { ⌜ CutsAsked (now file) at count days (now marks) ⌝ }
-    ensures { λ r. ⌜ Closed (now (file .entry)) (firstFault (cutFault (now (file .entry))) (cutsLength (now (file .entry)))) r (now (marks .exit)) ⌝ }
+    ensures { λ r. ⌜ CutsMet (now (file .entry)) (firstFault (cutFault (now (file .entry))) (cutsLength (now (file .entry)))) r (now (marks .exit)) ⌝ }
 {
     let mut low = 0;
     let mut i = 0;
@@ -50,9 +50,9 @@ fn each_cut(file: &[u8], at: usize, count: usize, days: usize, marks: &mut [u8])
 }
 
 // The cuts' section and the end of the file, where nothing before has a fault.
-pub(crate) fn cuts_at(file: &[u8], at: usize, before: Progress, marks: &mut [u8]) -> Progress
+pub(crate) fn cuts_at(file: &[u8], at: usize, before: SectionEnd, marks: &mut [u8]) -> SectionEnd
     requires { ⌜ CutsFrom (now file) at before (now marks) ⌝ }
-    ensures { λ r. ⌜ Closed (now (file .entry)) (faultOf (now (file .entry))) r (now (marks .exit)) ⌝ }
+    ensures { λ r. ⌜ CutsMet (now (file .entry)) (faultOf (now (file .entry))) r (now (marks .exit)) ⌝ }
 {
     if before.number != 0 {
         return before;

@@ -3,10 +3,10 @@ ghost use mathlib.Core.Path.{_≡_};
 ghost use Rattle.account.specs.Account.{account};
 ghost use Rattle.profile.specs.Limits.{spanMost};
 ghost use Rattle.casefile.specs.Faults.{faultOf};
-ghost use Rattle.casefile.specs.Sections.{Clear, AllClear, SpanMet, ReadingsFrom, Filed, CutsFrom, Closed, FillMet, filedFault};
+ghost use Rattle.casefile.specs.Sections.{Clear, AllClear, SpanMet, ReadingsFrom, ReadingsMet, CutsFrom, CutsMet, FillMet, filedFault};
 use crate::cuts::cuts_at;
 use crate::readings::readings_at;
-use crate::sections::Progress;
+use crate::sections::SectionEnd;
 use crate::span::span_at;
 
 pub struct Reader<'a> {
@@ -29,24 +29,29 @@ fn moved<'a>(r: Reader<'a>, at: usize) -> Reader<'a>
 }
 
 // Profile, weekday and means.
-fn span<'a>(r: Reader<'a>, weights: &mut [u32]) -> Progress
+fn span<'a>(r: Reader<'a>, weights: &mut [u32]) -> SectionEnd
     requires { ⌜ (r .at ≡ 0) × Clear spanMost (now weights) ⌝ }
     ensures { λ p. ⌜ SpanMet (now (r .entry .file)) p (now (weights .exit)) ⌝ }
 {
     span_at(r.file, r.at, weights)
 }
 
-fn readings<'a>(r: Reader<'a>, before: Progress, marks: &mut [u8], counts: &mut [u64]) -> Progress
+fn readings<'a>(
+    r: Reader<'a>,
+    before: SectionEnd,
+    marks: &mut [u8],
+    counts: &mut [u64],
+) -> SectionEnd
     requires { ⌜ ReadingsFrom (now (r .file)) (r .at) before (now marks) (now counts) ⌝ }
-    ensures { λ p. ⌜ Filed (now (r .entry .file)) (filedFault (now (r .entry .file))) p (now (marks .exit)) (now (counts .exit)) ⌝ }
+    ensures { λ p. ⌜ ReadingsMet (now (r .entry .file)) (filedFault (now (r .entry .file))) p (now (marks .exit)) (now (counts .exit)) ⌝ }
 {
     readings_at(r.file, r.at, before, marks, counts)
 }
 
 // The cuts and the end of the file.
-fn cuts<'a>(r: Reader<'a>, before: Progress, marks: &mut [u8]) -> Progress
+fn cuts<'a>(r: Reader<'a>, before: SectionEnd, marks: &mut [u8]) -> SectionEnd
     requires { ⌜ CutsFrom (now (r .file)) (r .at) before (now marks) ⌝ }
-    ensures { λ p. ⌜ Closed (now (r .entry .file)) (faultOf (now (r .entry .file))) p (now (marks .exit)) ⌝ }
+    ensures { λ p. ⌜ CutsMet (now (r .entry .file)) (faultOf (now (r .entry .file))) p (now (marks .exit)) ⌝ }
 {
     cuts_at(r.file, r.at, before, marks)
 }
@@ -57,7 +62,7 @@ pub(crate) fn fill(
     weights: &mut [u32],
     marks: &mut [u8],
     counts: &mut [u64],
-) -> Progress
+) -> SectionEnd
     requires { ⌜ AllClear (account (now weights) (now marks) (now counts)) ⌝ }
     ensures { λ p. ⌜ FillMet (now (file .entry)) p (account (now (weights .exit)) (now (marks .exit)) (now (counts .exit))) ⌝ }
 {

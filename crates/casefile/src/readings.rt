@@ -5,10 +5,10 @@ ghost use lib.ListN.{length};
 ghost use Rattle.casefile.specs.Bytes.{number64};
 ghost use Rattle.casefile.specs.Case.{readingsLength};
 ghost use Rattle.casefile.specs.Faults.{firstFault, readingFault};
-ghost use Rattle.casefile.specs.Sections.{ItemMet, CountedMet, ReadingsAsked, ReadingsFrom, Filed, filedFault};
+ghost use Rattle.casefile.specs.Sections.{ItemMet, CountedMet, ReadingsAsked, ReadingsFrom, ReadingsMet, filedFault};
 use crate::bytes::number16;
 use crate::bytes::number64;
-use crate::sections::Progress;
+use crate::sections::SectionEnd;
 use crate::sections::passed;
 use crate::sections::refused;
 use account::ENERGY_MOST;
@@ -90,9 +90,9 @@ fn each_reading(
     days: usize,
     marks: &mut [u8],
     counts: &mut [u64],
-) -> Progress
+) -> SectionEnd
     requires { ⌜ ReadingsAsked (now file) at count days (now marks) (now counts) ⌝ }
-    ensures { λ r. ⌜ Filed (now (file .entry)) (firstFault (readingFault (now (file .entry))) (readingsLength (now (file .entry)))) r (now (marks .exit)) (now (counts .exit)) ⌝ }
+    ensures { λ r. ⌜ ReadingsMet (now (file .entry)) (firstFault (readingFault (now (file .entry))) (readingsLength (now (file .entry)))) r (now (marks .exit)) (now (counts .exit)) ⌝ }
 {
     let first = first_count(file, at);
     let mut last = first;
@@ -117,12 +117,12 @@ fn each_reading(
 pub(crate) fn readings_at(
     file: &[u8],
     at: usize,
-    before: Progress,
+    before: SectionEnd,
     marks: &mut [u8],
     counts: &mut [u64],
-) -> Progress
+) -> SectionEnd
     requires { ⌜ ReadingsFrom (now file) at before (now marks) (now counts) ⌝ }
-    ensures { λ r. ⌜ Filed (now (file .entry)) (filedFault (now (file .entry))) r (now (marks .exit)) (now (counts .exit)) ⌝ }
+    ensures { λ r. ⌜ ReadingsMet (now (file .entry)) (filedFault (now (file .entry))) r (now (marks .exit)) (now (counts .exit)) ⌝ }
 {
     if before.number != 0 {
         return before;

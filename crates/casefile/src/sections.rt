@@ -1,7 +1,7 @@
 // How far the reader has come after a section (Case file): the days and the next offset, or the fault it met.
 ghost use mathlib.Core.Path.{_≡_};
 
-pub(crate) struct Progress {
+pub(crate) struct SectionEnd {
     // The table's number; 0 where no fault was met.
     pub(crate) number: u8,
     pub(crate) place: usize,
@@ -9,10 +9,10 @@ pub(crate) struct Progress {
     pub(crate) next: usize,
 }
 
-pub(crate) fn refused(number: u8, place: usize) -> Progress
+pub(crate) fn refused(number: u8, place: usize) -> SectionEnd
     ensures { λ r. ⌜ r ≡ record { number = number; place = place; days = 0; next = 0 } ⌝ }
 {
-    Progress {
+    SectionEnd {
         number,
         place,
         days: 0,
@@ -20,10 +20,10 @@ pub(crate) fn refused(number: u8, place: usize) -> Progress
     }
 }
 
-pub(crate) fn passed(days: usize, next: usize) -> Progress
+pub(crate) fn passed(days: usize, next: usize) -> SectionEnd
     ensures { λ r. ⌜ r ≡ record { number = 0; place = 0; days = days; next = next } ⌝ }
 {
-    Progress {
+    SectionEnd {
         number: 0,
         place: 0,
         days,

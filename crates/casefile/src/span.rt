@@ -10,13 +10,13 @@ ghost use Rattle.casefile.specs.Sections.{Reached, MeansMet, SpanMet, Cl
 ghost use Rattle.casefile.specs.Faults.{headFault};
 use crate::bytes::number16;
 use crate::bytes::signed;
-use crate::sections::Progress;
+use crate::sections::SectionEnd;
 use crate::sections::passed;
 use crate::sections::refused;
 use profile::Profile;
 
 // Profile, weekday and the count of means.
-fn head(file: &[u8]) -> Progress
+fn head(file: &[u8]) -> SectionEnd
     ensures { λ r. ⌜ Reached (headFault (now (file .entry))) (daysOf (now (file .entry))) 4 r ⌝ }
 {
     if file.len() < 1 {
@@ -45,7 +45,7 @@ fn head(file: &[u8]) -> Progress
 }
 
 // The means, up to the first fault, into a buffer.
-fn means_at(file: &[u8], at: usize, count: usize, means: &mut [i16]) -> Progress
+fn means_at(file: &[u8], at: usize, count: usize, means: &mut [i16]) -> SectionEnd
     requires { ⌜ (at ≡ 4) × (count ≡ meansLength (now file)) × (4 ≤ count) × (count ≤ length (now means)) × (length (now means) ≡ 1099) ⌝ }
     ensures { λ r. ⌜ MeansMet (now (file .entry)) r (now (means .exit)) ⌝ }
 {
@@ -74,7 +74,7 @@ fn weigh(profile: u8, weekday: u8, means: &[i16], days: usize, weights: &mut [u3
 }
 
 // Profile, weekday and means: the span and its weights.
-pub(crate) fn span_at(file: &[u8], at: usize, weights: &mut [u32]) -> Progress
+pub(crate) fn span_at(file: &[u8], at: usize, weights: &mut [u32]) -> SectionEnd
     requires { ⌜ (at ≡ 0) × Clear spanMost (now weights) ⌝ }
     ensures { λ r. ⌜ SpanMet (now (file .entry)) r (now (weights .exit)) ⌝ }
 {

@@ -6,8 +6,9 @@ use mathlib.Core.Bool.{not}
 use mathlib.Core.List.{List}
 use lib.Dec.{ltb}
 use lib.ListN.{length}
+use Rattle.profile.specs.Limits.{badSpan}
 use Rattle.rounding.specs.Nearest.{nearest}
-use Rattle.account.specs.Account.{badSpan, goodWeight, goodWeights, energyMost}
+use Rattle.account.specs.Account.{goodWeight, goodWeights, energyMost}
 use Rattle.profile.specs.Rows.{row, ifDone}
 use Rattle.profile.specs.Coefficients.{sumOf}
 use Rattle.customer.specs.declared.CustomerAnswer.{CustomerAnswer}
@@ -39,26 +40,26 @@ dailyAmount v weight = nearest (v * weight) 10_000_000
 abbrev pub valueMost : ℕ
 valueMost = 1_000_000_000_000
 
-abbrev pub customerRows : ℕ → List ℕ → ℕ
-customerRows energy w =
-    row (badSpan (length w)) 3
-    (row (not (goodWeights w)) 5
-    (row (ltb energyMost energy) 9
-    (row (ltb valueMost (customerValue energy w)) 12
+abbrev pub customerNumber : ℕ → List ℕ → ℕ
+customerNumber energy w =
+    row (badSpan (length w)) 3  -- n outside 1 to 1,096
+    (row (not (goodWeights w)) 5  -- lent weights unsound
+    (row (ltb energyMost energy) 9  -- energy above 2,000,000,000
+    (row (ltb valueMost (customerValue energy w)) 12  -- customer value above 10^12
     0)))
 
 -- 5 asks about the single weight, and 12 about the value that is passed in
-abbrev pub amountRows : ℕ → ℕ → ℕ
-amountRows v weight =
-    row (not (goodWeight weight)) 5
-    (row (ltb valueMost v) 12
+abbrev pub amountNumber : ℕ → ℕ → ℕ
+amountNumber v weight =
+    row (not (goodWeight weight)) 5  -- weight outside 1 to 6,999,999
+    (row (ltb valueMost v) 12  -- customer value above 10^12
     0)
 
 pub record CustomerMet (energy : ℕ) (w : List ℕ) (answer : CustomerAnswer) (after : List ℕ) : Type 0 where
-  pub answers : number answer ≡ customerRows energy w
-  pub values : value answer ≡ ifDone (customerRows energy w) (customerValue energy w) 0
+  pub answers : number answer ≡ customerNumber energy w
+  pub gives : value answer ≡ ifDone (customerNumber energy w) (customerValue energy w) 0
   pub stays : after ≡ w
 
 pub record AmountMet (v weight : ℕ) (answer : CustomerAnswer) : Type 0 where
-  pub answers : number answer ≡ amountRows v weight
-  pub values : value answer ≡ ifDone (amountRows v weight) (dailyAmount v weight) 0
+  pub answers : number answer ≡ amountNumber v weight
+  pub gives : value answer ≡ ifDone (amountNumber v weight) (dailyAmount v weight) 0

@@ -23,7 +23,7 @@ pub enum CustomerAnswer {
 }
 
 // Z: the sum of the weights.
-fn total(weights: &[u32]) -> u64
+fn sum_of(weights: &[u32]) -> u64
     requires { ⌜ length (now weights) ≤ spanMost ⌝ }
     ensures { λ r. ⌜ r ≡ sumOf (now (weights .entry)) ⌝ }
 {
@@ -53,7 +53,7 @@ pub fn customer_value(energy: u64, weights: &[u32]) -> CustomerAnswer
     if ENERGY_MOST < energy {
         return CustomerAnswer::TooMuch;
     }
-    let value = rounding::nearest_of(energy * UNITS, total(weights));
+    let value = rounding::nearest_of(energy * UNITS, sum_of(weights));
     if VALUE_MOST < value {
         return CustomerAnswer::TooGreat;
     }

@@ -2,13 +2,12 @@
 -- series serves, and else empty. Assumes nothing.
 use Prim.Native.Nat.{ℕ, _+_, _≤_}
 use mathlib.Core.Path.{_≡_, refl, ap, _∙_}
-use mathlib.Core.Bool.{Bool, true, false, not}
+use mathlib.Core.Bool.{Bool, true, false, cond, not}
 use mathlib.Core.List.{List}
 use denote.Ref.{RefT}
 use lib.IntN.{ℤ}
 use lib.ListN.{length}
 use lib.Seq.{length-take-le}
-use Rattle.profile.specs.Rows.{row}
 use Rattle.profile.specs.Limits.{isSpan}
 use Rattle.weights.specs.Choose.{Series, Measured, Forecast, Neither, serves, partOf, ChooseMet}
 use Rattle.weights.proofs.Series.{serves-long}
@@ -16,11 +15,11 @@ use Rattle.ffi.specs.Calls.{seriesNumber, meansCount}
 
 -- the rows of the choice
 abbrev which : Bool → Bool → Bool → Series
-which outside measured forecast = row outside Neither (row measured Measured (row forecast Forecast Neither))
+which outside measured forecast = cond outside Neither (cond measured Measured (cond forecast Forecast Neither))
 
 -- how many means the chooser returns of one series
 abbrev pub alone : Bool → Bool → ℕ → ℕ
-alone outside serving k = row outside 0 (row serving k 0)
+alone outside serving k = cond outside 0 (cond serving k 0)
 
 pub length-alone : (s r : RefT (List ℤ)) (n : ℕ) {after : List ℤ} → ChooseMet s s n r after after → length (r .now) ≡ alone (not (isSpan n)) (serves (s .now) (n + 3)) (n + 3)
 length-alone s r n met = ap length (met .means-are) ∙ go (not (isSpan n)) (serves (s .now) (n + 3)) (serves-long (s .now) (n + 3))

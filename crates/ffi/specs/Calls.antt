@@ -10,14 +10,14 @@ use Rattle.profile.specs.Limits.{weightLeast, weightMost}
 use Rattle.profile.specs.Coefficients.{profileOf}
 use Rattle.profile.specs.Value.{valueLow, valueHigh}
 use Rattle.profile.specs.Weight.{weightOf, floorWeight}
-use Rattle.profile.specs.Answers.{valueRefusal, weightRefusal, Enclosed}
+use Rattle.profile.specs.Answers.{valueNumber, weightNumber, Enclosed}
 use Rattle.weights.specs.Temperature.{temperatureNumber, temperaturePlace, temperatureValue}
 use Rattle.weights.specs.Choose.{Series, Measured, Forecast, Neither, choice}
-use Rattle.weights.specs.Weights.{outcome, Bounded}
+use Rattle.weights.specs.Weights.{ruling, Bounded}
 use Rattle.account.specs.Account.{Account, shown}
 use Rattle.statement.specs.Parts.{Outputs, parts, statementOf}
 use Rattle.statement.specs.Call.{statementNumber, outputsAfter}
-use Rattle.customer.specs.Customer.{customerRows, customerValue, amountRows, dailyAmount}
+use Rattle.customer.specs.Customer.{customerNumber, customerValue, amountNumber, dailyAmount}
 use Rattle.casefile.specs.Case.{daysOf}
 use Rattle.casefile.specs.Reader.{verdict, faultNumber, faultPlace, slicesAfter}
 use Rattle.ffi.specs.declared.Outcome.{Outcome}
@@ -26,14 +26,14 @@ use Rattle.ffi.specs.declared.Values.{Values}
 use Rattle.ffi.specs.declared.Chosen.{Chosen}
 
 -- the number, the place and the value that a call returns
-abbrev pub told : ℕ → ℕ → ℕ → Outcome
-told number place value = record { number = number; place = place; value = value }
+abbrev pub outcomeOf : ℕ → ℕ → ℕ → Outcome
+outcomeOf number place value = record { number = number; place = place; value = value }
 
 -- ---- Temperature of a day
 pub record TemperatureReturned (a b c d : ℤ) (r : Temperature) : Type 0 where
-  pub number-is : r .number ≡ temperatureNumber a b c d
-  pub place-is : r .place ≡ temperaturePlace a b c d
-  pub value-is : r .value ≡ temperatureValue a b c d
+  pub answers : r .number ≡ temperatureNumber a b c d
+  pub places : r .place ≡ temperaturePlace a b c d
+  pub gives : r .value ≡ temperatureValue a b c d
 
 -- the number of the series that the chooser returns means of, and how many of these there are
 abbrev pub seriesNumber : Series → ℕ
@@ -54,27 +54,27 @@ pub record ChooseReturned (measured forecast : List ℤ) (n : ℕ) (r : Chosen) 
 
 -- ---- Profile value
 pub record ValueReturned (k : ℕ) (t : ℤ) (r : Values) : Type 0 where
-  pub number : r .number ≡ valueRefusal k t
-  pub place : r .place ≡ 0
-  pub low : r .low ≡ ifDone (valueRefusal k t) (valueLow (profileOf k) t) (pos 0)
-  pub high : r .high ≡ ifDone (valueRefusal k t) (valueHigh (profileOf k) t) (pos 0)
-  pub encloses : valueRefusal k t ≡ 0 → Enclosed k t
+  pub answers : r .number ≡ valueNumber k t
+  pub places : r .place ≡ 0
+  pub low : r .low ≡ ifDone (valueNumber k t) (valueLow (profileOf k) t) (pos 0)
+  pub high : r .high ≡ ifDone (valueNumber k t) (valueHigh (profileOf k) t) (pos 0)
+  pub powers-enclose : valueNumber k t ≡ 0 → Enclosed k t
 
 pub record WeightReturned (k weekday : ℕ) (t : ℤ) (r : Outcome) : Type 0 where
-  pub number : r .number ≡ weightRefusal k weekday t
-  pub place : r .place ≡ 0
-  pub weight : r .value ≡ ifDone (weightRefusal k weekday t) (weightOf k weekday t) 0
-  pub floored : weightRefusal k weekday t ≡ 0 → floorWeight k weekday t ≡ pos (r .value)
-  pub least : weightRefusal k weekday t ≡ 0 → weightLeast ≤ r .value
-  pub most : weightRefusal k weekday t ≡ 0 → r .value ≤ weightMost
+  pub answers : r .number ≡ weightNumber k weekday t
+  pub places : r .place ≡ 0
+  pub gives : r .value ≡ ifDone (weightNumber k weekday t) (weightOf k weekday t) 0
+  pub floored : weightNumber k weekday t ≡ 0 → floorWeight k weekday t ≡ pos (r .value)
+  pub least : weightNumber k weekday t ≡ 0 → weightLeast ≤ r .value
+  pub most : weightNumber k weekday t ≡ 0 → r .value ≤ weightMost
 
 pub record WeightsReturned (profile weekday : ℕ) (means : List ℤ) (before : List ℕ) (r : Outcome) (after : List ℕ) (meansAfter : List ℤ) : Type 0 where
-  pub number-is : r .number ≡ outcome profile weekday means before .number
-  pub place-is : r .place ≡ outcome profile weekday means before .place
-  pub value-is : r .value ≡ 0
-  pub after-is : after ≡ outcome profile weekday means before .memory
+  pub answers : r .number ≡ ruling profile weekday means before .number
+  pub places : r .place ≡ ruling profile weekday means before .place
+  pub gives : r .value ≡ 0
+  pub writes : after ≡ ruling profile weekday means before .memory
   pub bounded : r .number ≡ 0 → Bounded after
-  pub means-stay : meansAfter ≡ means
+  pub stays : meansAfter ≡ means
 
 -- ---- Account and its calls: the number that the table gives, and the account after the call, `done` where the number is 0
 pub record AccountReturned (table : Account → ℕ) (done : Account → Account) (before : Account) (r : ℕ) (after : Account) : Type 0 where
@@ -83,27 +83,27 @@ pub record AccountReturned (table : Account → ℕ) (done : Account → Account
 
 pub record StatementReturned (before : Account) (lent : Outputs) (r : Outcome) (after : Account) (out : Outputs) : Type 0 where
   pub answers : r .number ≡ statementNumber before lent
-  pub place : r .place ≡ 0
-  pub counts : r .value ≡ ifDone (statementNumber before lent) (length (parts (before .weights) (shown before))) 0
+  pub places : r .place ≡ 0
+  pub gives : r .value ≡ ifDone (statementNumber before lent) (length (parts (before .weights) (shown before))) 0
   pub stays : after ≡ before
   pub writes : out ≡ outputsAfter (statementNumber before lent) (statementOf (before .weights) (shown before)) lent
 
 -- ---- Customer value and daily amount
 pub record CustomerReturned (energy : ℕ) (w : List ℕ) (r : Outcome) (after : List ℕ) : Type 0 where
-  pub answers : r .number ≡ customerRows energy w
-  pub place : r .place ≡ 0
-  pub values : r .value ≡ ifDone (customerRows energy w) (customerValue energy w) 0
+  pub answers : r .number ≡ customerNumber energy w
+  pub places : r .place ≡ 0
+  pub gives : r .value ≡ ifDone (customerNumber energy w) (customerValue energy w) 0
   pub stays : after ≡ w
 
 pub record AmountReturned (v weight : ℕ) (r : Outcome) : Type 0 where
-  pub answers : r .number ≡ amountRows v weight
-  pub place : r .place ≡ 0
-  pub values : r .value ≡ ifDone (amountRows v weight) (dailyAmount v weight) 0
+  pub answers : r .number ≡ amountNumber v weight
+  pub places : r .place ≡ 0
+  pub gives : r .value ≡ ifDone (amountNumber v weight) (dailyAmount v weight) 0
 
 -- ---- Case file
 pub record ReadReturned (file : List ℕ) (lent : Account) (r : Outcome) (after : Account) (kept : List ℕ) : Type 0 where
-  pub numbers : r .number ≡ faultNumber (verdict file lent)
+  pub answers : r .number ≡ faultNumber (verdict file lent)
   pub places : r .place ≡ faultPlace (verdict file lent)
-  pub returns : r .value ≡ ifDone (faultNumber (verdict file lent)) (daysOf file) 0
-  pub fills : after ≡ slicesAfter file lent
-  pub keeps : kept ≡ file
+  pub gives : r .value ≡ ifDone (faultNumber (verdict file lent)) (daysOf file) 0
+  pub writes : after ≡ slicesAfter file lent
+  pub stays : kept ≡ file

@@ -8,8 +8,8 @@ use statement::StatementAnswer;
 use weights::TemperatureAnswer;
 use weights::WeightsAnswer;
 ghost use mathlib.Core.Path.{_≡_};
-ghost use Rattle.profile.specs.Answers.{valueNumber, lowGiven, highGiven, weightNumber, weightGiven};
-ghost use Rattle.ffi.specs.Calls.{told};
+ghost use Rattle.profile.specs.Answers.{valueAnswered, lowGiven, highGiven, weightAnswered, weightGiven};
+ghost use Rattle.ffi.specs.Calls.{outcomeOf};
 ghost use Rattle.weights.specs.Temperature as four;
 ghost use Rattle.weights.specs.Weights as span;
 ghost use Rattle.statement.specs.Call as call;
@@ -44,7 +44,7 @@ pub(crate) fn temperature_value(answer: TemperatureAnswer) -> i16
 }
 
 pub(crate) fn value_number(answer: ValueAnswer) -> u8
-    ensures { λ r. ⌜ r ≡ valueNumber answer ⌝ }
+    ensures { λ r. ⌜ r ≡ valueAnswered answer ⌝ }
 {
     match answer {
         ValueAnswer::Value { low: _, high: _ } => 0,
@@ -74,7 +74,7 @@ pub(crate) fn value_high(answer: ValueAnswer) -> i64
 }
 
 pub(crate) fn weight(answer: WeightAnswer) -> Outcome
-    ensures { λ r. ⌜ r ≡ told (weightNumber answer) 0 (weightGiven answer) ⌝ }
+    ensures { λ r. ⌜ r ≡ outcomeOf (weightAnswered answer) 0 (weightGiven answer) ⌝ }
 {
     match answer {
         WeightAnswer::Weight(w) => Outcome {
@@ -101,7 +101,7 @@ pub(crate) fn weight(answer: WeightAnswer) -> Outcome
 }
 
 pub(crate) fn weights(answer: WeightsAnswer) -> Outcome
-    ensures { λ r. ⌜ r ≡ told (span.number answer) (span.place answer) 0 ⌝ }
+    ensures { λ r. ⌜ r ≡ outcomeOf (span.number answer) (span.place answer) 0 ⌝ }
 {
     match answer {
         WeightsAnswer::Done => Outcome {
@@ -133,7 +133,7 @@ pub(crate) fn weights(answer: WeightsAnswer) -> Outcome
 }
 
 pub(crate) fn statement(answer: StatementAnswer) -> Outcome
-    ensures { λ r. ⌜ r ≡ told (call.number answer) 0 (call.partCount answer) ⌝ }
+    ensures { λ r. ⌜ r ≡ outcomeOf (call.number answer) 0 (call.partCount answer) ⌝ }
 {
     match answer {
         StatementAnswer::Parts(parts) => Outcome {
@@ -160,7 +160,7 @@ pub(crate) fn statement(answer: StatementAnswer) -> Outcome
 }
 
 pub(crate) fn customer(answer: CustomerAnswer) -> Outcome
-    ensures { λ r. ⌜ r ≡ told (customer.number answer) 0 (customer.value answer) ⌝ }
+    ensures { λ r. ⌜ r ≡ outcomeOf (customer.number answer) 0 (customer.value answer) ⌝ }
 {
     match answer {
         CustomerAnswer::Given(v) => Outcome {
@@ -192,7 +192,7 @@ pub(crate) fn customer(answer: CustomerAnswer) -> Outcome
 }
 
 pub(crate) fn case(answer: CaseAnswer) -> Outcome
-    ensures { λ r. ⌜ r ≡ told (reader.number answer) (reader.place answer) (reader.days answer) ⌝ }
+    ensures { λ r. ⌜ r ≡ outcomeOf (reader.number answer) (reader.place answer) (reader.days answer) ⌝ }
 {
     match answer {
         CaseAnswer::Days(days) => Outcome {

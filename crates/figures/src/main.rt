@@ -3,12 +3,20 @@ use customer::CustomerAnswer;
 use libc::STDOUT_FILENO;
 use profile::Profile;
 use profile::ValueAnswer;
+use profile::WeightAnswer;
 use weights::TemperatureAnswer;
-ghost use Prim.Native.Nat.{_<_};
+ghost use Prim.Native.Nat.{_<_, min, max};
 ghost use mathlib.Core.Path.{_≡_};
 ghost use mathlib.Core.Bool.{_&&_};
-ghost use lib.IntN.{pos};
+ghost use lib.IntN.{pos, _+ℤ_};
 ghost use lib.Signed.{leZ};
+ghost use Rattle.profile.specs.Limits.{coldest};
+
+// The least and the greatest of the weights seen so far.
+struct Range {
+    least: u32,
+    most: u32,
+}
 
 fn word(text: &[u8]) {
     io::write_all(STDOUT_FILENO, text);
@@ -190,6 +198,72 @@ fn weeks() {
     factors(9);
 }
 
+fn wider(range: Range, w: u32) -> Range
+    ensures { λ r. ⌜ (r .least ≡ min (range .least) w) × (r .most ≡ max (range .most) w) ⌝ }
+{
+    let least = if w < range.least { w } else { range.least };
+    let most = if range.most < w { w } else { range.most };
+    Range { least, most }
+}
+
+// A refusal, which no day of the table has, leaves the range as it was.
+fn taken(range: Range, answer: WeightAnswer) -> Range {
+    let WeightAnswer::Weight(w) = answer else {
+        return range;
+    };
+    wider(range, w)
+}
+
+fn over_week(profile: u8, t: i16, range: Range) -> Range {
+    let mut so_far = range;
+    let mut d = 0;
+    while d < 7 {
+        so_far = taken(so_far, profile::day_weight(profile, d, t));
+        d += 1;
+    }
+    so_far
+}
+
+// The temperature that lies so many hundredths above the coldest.
+fn from_coldest(k: u16) -> i16
+    requires { ⌜ k < 9000 ⌝ }
+    ensures { λ r. ⌜ r ≡ pos k +ℤ coldest ⌝ }
+{
+    k as i16 + Profile::COLDEST
+}
+
+fn over_temperatures(profile: u8, range: Range) -> Range {
+    let mut so_far = range;
+    let mut k = 0;
+    while k < 9_000 {
+        so_far = over_week(profile, from_coldest(k), so_far);
+        k += 1;
+    }
+    so_far
+}
+
+// Begins with a range that any weight replaces.
+fn whole_table() -> Range {
+    let mut so_far = Range {
+        least: 4_294_967_295,
+        most: 0,
+    };
+    let mut profile = 0;
+    while profile < Profile::COUNT {
+        so_far = over_temperatures(profile, so_far);
+        profile += 1;
+    }
+    so_far
+}
+
+// All ten profiles, seven weekdays and 9,000 temperatures.
+fn table() {
+    let range = whole_table();
+    labelled(b"weights over the whole table: ", from_u32(range.least));
+    labelled(b" to ", from_u32(range.most));
+    end_line();
+}
+
 // The weights of the paper's example: profile 0 from a Monday, six means of 10.00 degrees.
 fn example() {
     let means = [1000i16; 6];
@@ -269,6 +343,7 @@ fn main() {
     values();
     near();
     weeks();
+    table();
     example();
     customers();
     split();

@@ -67,7 +67,7 @@ step a (Call.uncut k) =
 step a (Call.statement lent) =
     let ps = parts (a .weights) (shown a) in
     let gives = stated a lent (length ps) in
-    (run.statement lent (gives .0) a (statement.outputsAfter (statementNumber a lent) (written (days a) ps) lent), record { answers = gives .1; counts = gives .2; stays = refl; writes = refl }, refl)
+    (run.statement lent (gives .0) a (statement.outputsAfter (statementNumber a lent) (written (days a) ps) lent), record { answers = gives .1; gives = gives .2; stays = refl; writes = refl }, refl)
 
 pub every-list-runs : EveryListRuns
 every-list-runs a [] = ([], tt, refl)

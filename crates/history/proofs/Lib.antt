@@ -1,3 +1,4 @@
+-- The laws that the proofs of crate history share, and its theorems.
 pub mod Invariant
 pub mod Theorem
 pub mod EveryList

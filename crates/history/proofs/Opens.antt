@@ -23,8 +23,8 @@ pub opens : OverWeights
 opens profile weekday means lent given w kept met done marks counts fit-marks fit-counts =
     let b = met .bounded done in
     rw (
-      le-leb 1 (length w) (b .some),
-      le-leb (length w) spanMost (b .within),
+      le-leb 1 (length w) (b .least),
+      le-leb (length w) spanMost (b .most),
       eq-eqb (length marks) (length w + 1) fit-marks,
       eq-eqb (length counts) (length w + 1) fit-counts,
       bounded-good w b,

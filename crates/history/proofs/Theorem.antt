@@ -16,8 +16,8 @@ use Rattle.statement.specs.declared.StatementAnswer.the-variants.{Parts}
 use Rattle.statement.specs.Parts.{Outputs, parts, written}
 use Rattle.statement.specs.Call as statement
 use Rattle.statement.specs.Call.{StatementMet, unfitOutputs}
-use Rattle.statement.specs.Facts.{Fair, TwoReadings}
-use Rattle.statement.proofs.Order.{fair-of-sound}
+use Rattle.statement.specs.Facts.{Valid, TwoReadings}
+use Rattle.statement.proofs.Order.{valid-of-sound}
 use Rattle.statement.proofs.Successive.{successive}
 use Rattle.statement.proofs.Facts.{sums-up, shared, same-energy}
 use Rattle.history.specs.Run.{Event, Step, Run, standing}
@@ -30,17 +30,17 @@ record By (w : List ℕ) (s : Stands) (m : ℕ) (out : Outputs) : Type 0 where
   counts : m ≡ length (parts w s)
   writes : out ≡ written (length w) (parts w s)
   two : TwoReadings w s
-  fair : Fair w (s .readings)
+  valid : Valid w (s .readings)
   inside : (k : ℕ) → s .readings .at k ≡ true → k ≤ length w
 
 by : (a : Account) (lent : Outputs) (m : ℕ) (b : Account) (out : Outputs) → Checked a → StatementMet a lent (Parts m) b out → By (a .weights) (shown a) m out
 by a lent m b out f met =
     let rows = row-none (unfitOutputs (days a) lent) _ _ (lit< tt) (sym (rw (f .fits, f .sound) at (met .answers))) in
     record {
-      counts = rw (← (met .answers)) at (met .counts);
+      counts = rw (← (met .answers)) at (met .gives);
       writes = rw (← (met .answers)) at (met .writes);
       two = row-none _ _ _ (lit< tt) (rows .1) .0;
-      fair = fair-of-sound a (f .sound);
+      valid = valid-of-sound a (f .sound);
       inside = shown-inside a (f .fits);
     }
 
@@ -65,17 +65,17 @@ module _ (w : List ℕ) (opened : Account) (start : Holds w nothing opened) (es 
             (holds .weighs) (holds .shows) (rw (← (met .answers)) at (met .writes));
         statements = λ before m out g. let by = given before m out g in (by .counts, by .writes);
         successive = λ before m out g. let by = given before m out g in rw (by .counts, by .writes) (successive w (standing w before) (by .two));
-        sums = λ before m out g. let by = given before m out g in rw (by .counts, by .writes) (sums-up w (standing w before) (by .fair) (by .two));
+        sums = λ before m out g. let by = given before m out g in rw (by .counts, by .writes) (sums-up w (standing w before) (by .valid) (by .two));
         shares =
             λ before m out g i below.
             let by = given before m out g in
-            rw (by .writes) (shared w (standing w before) (by .fair) (by .two) i (rw (by .counts) at below));
+            rw (by .writes) (shared w (standing w before) (by .valid) (by .two) i (rw (by .counts) at below));
         boundaries =
             λ before₁ m₁ out₁ g₁ before₂ m₂ out₂ g₂ p q b adj₁ adj₂ same-p same-q low high mark₁ mark₂.
             let by₁ = given before₁ m₁ out₁ g₁ in
             let by₂ = given before₂ m₂ out₂ g₂ in
             rw (by₁ .counts, by₁ .writes, by₂ .counts, by₂ .writes)
-            (same-energy w (standing w before₁) (standing w before₂) (by₁ .fair) (by₂ .fair) p q b adj₁ adj₂ same-p same-q
+            (same-energy w (standing w before₁) (standing w before₂) (by₁ .valid) (by₂ .valid) p q b adj₁ adj₂ same-p same-q
             (by₁ .inside q (adj₁ .at-q)) low high mark₁ mark₂);
       }
 

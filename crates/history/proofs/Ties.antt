@@ -12,4 +12,11 @@ tied =
       uncut-is = λ κs a r s. refl;
       statement-is = λ κs a r s. refl;
       weights-is = λ κs a r s. refl;
+      open-asks-nothing = λ κs a. refl;
+      reading-asks-nothing = λ κs a. refl;
+      withdraw-asks-nothing = λ κs a. refl;
+      cut-asks-nothing = λ κs a. refl;
+      uncut-asks-nothing = λ κs a. refl;
+      statement-asks-nothing = λ κs a. refl;
+      weights-asks-nothing = λ κs a. refl;
     }

@@ -82,7 +82,7 @@ abbrev pub EveryListRuns : Type 0
 EveryListRuns = (a : Account) (cs : List Call) → (es : List Event) × Run a es × (map call es ≡ cs)
 
 -- "... over weights from demand 2": weights that the weights call gives are ones that open accepts, with any marks and counts of the lengths
--- for them.
+-- for them. (proofs/Opens, `opens`)
 abbrev pub OverWeights : Type 0
 OverWeights =
     (profile weekday : ℕ) (means : List ℤ) (lent : List ℕ) (given : WeightsAnswer) (w : List ℕ) (kept : List ℤ) →
@@ -90,7 +90,7 @@ OverWeights =
     (marks counts : List ℕ) → length marks ≡ length w + 1 → length counts ≡ length w + 1 →
     openNumber (account w marks counts) ≡ 0
 
--- so the claim holds of every list of calls on an account over them
+-- so the claim holds of every list of calls on an account over them (`demand3-over-weights`)
 abbrev pub ClaimOverWeights : Type 0
 ClaimOverWeights =
     (profile weekday : ℕ) (means : List ℤ) (lent : List ℕ) (given : WeightsAnswer) (w : List ℕ) (kept : List ℤ) →

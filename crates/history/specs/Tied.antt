@@ -1,5 +1,6 @@
 -- The calls of demand 3 are the crates' own functions: for each of the six, the contract as the toolchain reads it IS the step of `Run` (of
--- open, the hypothesis of `Claim`), and so for the weights call. (proofs/Ties, `tied`: by `refl`, so a contract that is weakened breaks it)
+-- open, the hypothesis of `Claim`), and so for the weights call; and none asks anything of its caller, "each entry point checks its own input".
+-- (proofs/Ties, `tied`: by `refl`, so a contract that is weakened breaks it)
 use Prim.Native.Nat.{ℕ}
 use mathlib.Core.Path.{_≡_}
 use mathlib.Core.List.{List}
@@ -57,3 +58,10 @@ pub record Tied : Type 1 where
   pub weights-is : (κs : Lifetimes.Lfts 2) (a : Kinds.Dens κs weights-kinds.ps) (r : _) (s : _) →
       weights-reads.Post κs a r s ≡
       WeightsMet (a .0) (a .1 .0) (now (a .1 .1 .0)) (now (a .1 .1 .1 .0)) r (now (s .1 .1 .1 .0)) (now (s .1 .1 .0))
+  pub open-asks-nothing : (κs : Lifetimes.Lfts 3) (a : Kinds.Dens κs open-kinds.ps) → open-reads.Pre κs a ≡ Unit {0}
+  pub reading-asks-nothing : (κs : Lifetimes.Lfts 3) (a : Kinds.Dens κs reading-kinds.ps) → reading-reads.Pre κs a ≡ Unit {0}
+  pub withdraw-asks-nothing : (κs : Lifetimes.Lfts 3) (a : Kinds.Dens κs withdraw-kinds.ps) → withdraw-reads.Pre κs a ≡ Unit {0}
+  pub cut-asks-nothing : (κs : Lifetimes.Lfts 3) (a : Kinds.Dens κs cut-kinds.ps) → cut-reads.Pre κs a ≡ Unit {0}
+  pub uncut-asks-nothing : (κs : Lifetimes.Lfts 3) (a : Kinds.Dens κs uncut-kinds.ps) → uncut-reads.Pre κs a ≡ Unit {0}
+  pub statement-asks-nothing : (κs : Lifetimes.Lfts 6) (a : Kinds.Dens κs statement-kinds.ps) → statement-reads.Pre κs a ≡ Unit {0}
+  pub weights-asks-nothing : (κs : Lifetimes.Lfts 2) (a : Kinds.Dens κs weights-kinds.ps) → weights-reads.Pre κs a ≡ Unit {0}

@@ -1,3 +1,4 @@
+-- The laws that the proofs of crate layout share, and its theorems.
 pub mod Decimal
 pub mod Laid
 mod Sums

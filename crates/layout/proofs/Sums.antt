@@ -5,13 +5,13 @@ use mathlib.Core.List.{[], _++_}
 use Prim.Native.Nat.{ℕ, _+_}
 use native.Mathlib.Numerals.{add-one}
 use lib.ListN.{getD}
-use Rattle.account.specs.Below.{some}
+use Rattle.account.specs.Below.{somewhere}
 use Rattle.statement.specs.Parts.{Outputs}
 use Rattle.statement.specs.Shares.{total}
 use Rattle.layout.specs.Text.{partLines, lineOf}
 
-pub some-more : (p : ℕ → Bool) (i : ℕ) → some p (i + 1) ≡ (some p i || p i)
-unfolding some
+pub some-more : (p : ℕ → Bool) (i : ℕ) → somewhere p (i + 1) ≡ (somewhere p i || p i)
+unfolding somewhere
 some-more p i = rw add-one
 
 pub total-none : (o : Outputs) → total o 0 ≡ 0

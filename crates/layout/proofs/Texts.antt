@@ -29,7 +29,7 @@ module _ (a : Account) (o : Outputs) (f : length (o .from) ≡ days a) (t : leng
 
   given-says : statementNumber a o ≡ 0 → statementText out (partCount answer) ≡ statementText (written (days a) (parts (a .weights) (shown a))) (length (parts (a .weights) (shown a)))
   given-says done =
-      let count : partCount answer ≡ length (parts (a .weights) (shown a)) = met .counts ∙ simp done in
+      let count : partCount answer ≡ length (parts (a .weights) (shown a)) = met .gives ∙ simp done in
       ap₂ statementText (met .writes ∙ ap (λ (n : ℕ). outputsAfter n (written (days a) (parts (a .weights) (shown a))) o) done) count
 
   -- what the call answered and wrote is what is printed of the account

@@ -8,7 +8,7 @@ use lib.Dec.{ltb, eqb}
 use lib.ListN.{length, getD}
 use lib.Seq.{sets}
 use Rattle.io.specs.Digits.{digits}
-use Rattle.account.specs.Below.{some}
+use Rattle.account.specs.Below.{somewhere}
 use Rattle.account.specs.Account.{energyMost}
 use Rattle.profile.specs.Limits.{spanMost}
 use Rattle.statement.specs.Parts.{Outputs}
@@ -55,7 +55,7 @@ noStatement o m =
     ltb (length (o .from)) m ||
     ltb (length (o .to)) m ||
     ltb (length (o .wh)) m ||
-    some (λ i. ltb energyMost (getD (o .wh) i 0)) m
+    somewhere (λ i. ltb energyMost (getD (o .wh) i 0)) m
 
 -- the text of a statement of m parts that add up to `sum`
 abbrev pub partsText : Outputs → ℕ → ℕ → List ℕ

@@ -11,7 +11,7 @@ ghost use Prim.Native.Nat.{ℕ, _+_, _*_, _<_, _≤_, _^_};
 ghost use lib.Dec.{ltb};
 ghost use lib.ListN.{length, getD};
 ghost use Rattle.profile.specs.Limits.{spanMost};
-ghost use Rattle.account.specs.Below.{some};
+ghost use Rattle.account.specs.Below.{somewhere};
 ghost use Rattle.account.specs.Account.{energyMost, account};
 ghost use Rattle.statement.specs.Parts.{outputs};
 ghost use Rattle.statement.specs.Shares.{total};
@@ -69,7 +69,7 @@ pub fn statement_text(from: &[u16], to: &[u16], wh: &[u64], parts: usize, out: &
     if part_too_great(wh, parts) {
         return 0;
     }
-    parts_text(from, to, wh, parts, sum_of(wh, parts), out)
+    parts_text(from, to, wh, parts, total(wh, parts), out)
 }
 
 // The words, lines and sum of a statement, at the start of out.
@@ -87,7 +87,7 @@ fn parts_text(from: &[u16], to: &[u16], wh: &[u64], parts: usize, sum: u64, out:
 // Whether one of the first parts has more Wh than an account can have.
 fn part_too_great(wh: &[u64], parts: usize) -> bool
     requires { ⌜ parts ≤ length (now wh) ⌝ }
-    ensures { λ r. ⌜ r ≡ some (λ i. ltb energyMost (getD (now (wh .entry)) i 0)) parts ⌝ }
+    ensures { λ r. ⌜ r ≡ somewhere (λ i. ltb energyMost (getD (now (wh .entry)) i 0)) parts ⌝ }
 {
     let mut i = 0;
     while i < parts {
@@ -100,8 +100,8 @@ fn part_too_great(wh: &[u64], parts: usize) -> bool
 }
 
 // The sum of the first parts' Wh.
-fn sum_of(wh: &[u64], parts: usize) -> u64
-    requires { ⌜ (parts ≤ length (now wh)) × (parts ≤ spanMost) × (some (λ i. ltb energyMost (getD (now wh) i 0)) parts ≡ false) ⌝ }
+fn total(wh: &[u64], parts: usize) -> u64
+    requires { ⌜ (parts ≤ length (now wh)) × (parts ≤ spanMost) × (somewhere (λ i. ltb energyMost (getD (now wh) i 0)) parts ≡ false) ⌝ }
     ensures { λ r. ⌜ ((f t : List ℕ) → r ≡ total (outputs f t (now (wh .entry))) parts) ⌝ }
 {
     let mut sum: u64 = 0;

@@ -6,7 +6,7 @@ use Prim.Native.Nat.{ℕ, zero, suc, _*_, _/_, _%_, _^_, _≤_, _<_}
 use native.Mathlib.Nat.{le-refl, mul-comm, mul-le-mul, mul-le-mul-right}
 use lib.Dec.{eqb}
 use Rattle.power.specs.declared.rounded.Rounding.{Rounding}
-use Rattle.power.specs.Power.{one, quotient, product, nextRoot, raise, climb, power}
+use Rattle.power.specs.Power.{one, quotient, scaledProduct, nextRoot, raise, climb, power}
 use Rattle.power.proofs.Quotient.{quotient-le, quotient-exact}
 use Rattle.power.proofs.Root.{one-pos, root-le, root-exact}
 
@@ -15,22 +15,22 @@ module _ (way : Rounding) where
   pub ratio-le : (N M : ℕ) → 0 < M → N ≤ M → quotient way (N * one) M ≤ one
   ratio-le N M pos le = quotient-le way (N * one) M one pos (rw (mul-comm one M) (mul-le-mul-right one le))
 
-  pub product-le : (p r : ℕ) → p ≤ one → r ≤ one → product way p r ≤ one
-  unfolding product
+  pub product-le : (p r : ℕ) → p ≤ one → r ≤ one → scaledProduct way p r ≤ one
+  unfolding scaledProduct
   product-le p r hp hr = quotient-le way (p * r) one one one-pos (mul-le-mul hp hr)
 
   pub next-le : (r : ℕ) → r ≤ one → nextRoot way r ≤ one
   unfolding nextRoot
   next-le r h = root-le way (r * one) one (mul-le-mul-right one h)
 
-  pub cond-le : (b : Bool) (p r : ℕ) → p ≤ one → r ≤ one → cond b (product way p r) p ≤ one
+  pub cond-le : (b : Bool) (p r : ℕ) → p ≤ one → r ≤ one → cond b (scaledProduct way p r) p ≤ one
   cond-le true p r hp hr = product-le p r hp hr
   cond-le false p r hp hr = hp
 
   pub raise-le : (n r p : ℕ) → r ≤ one → p ≤ one → raise way n r p ≤ one
   unfolding raise
   raise-le zero r p hr hp = hp
-  raise-le (suc n) r p hr hp = raise-le n r (product way p r) hr (product-le p r hp hr)
+  raise-le (suc n) r p hr hp = raise-le n r (scaledProduct way p r) hr (product-le p r hp hr)
 
   pub climb-le : (k r p c : ℕ) → r ≤ one → p ≤ one → climb way k r p c ≤ one
   unfolding climb
@@ -44,15 +44,15 @@ module _ (way : Rounding) where
   pub ratio-one : (N M : ℕ) → 0 < M → N ≡ M → quotient way (N * one) M ≡ one
   ratio-one N M pos e = rw (e, mul-comm M one) (quotient-exact way M one pos)
 
-  product-one : product way one one ≡ one
-  unfolding product
+  product-one : scaledProduct way one one ≡ one
+  unfolding scaledProduct
   product-one = quotient-exact way one one one-pos
 
   next-one : nextRoot way one ≡ one
   unfolding nextRoot
   next-one = root-exact way one
 
-  cond-one : (b : Bool) → cond b (product way one one) one ≡ one
+  cond-one : (b : Bool) → cond b (scaledProduct way one one) one ≡ one
   cond-one true = product-one
   cond-one false = refl
 

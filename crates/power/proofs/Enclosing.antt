@@ -9,7 +9,7 @@ use native.Mathlib.Omega.{arith}
 use lib.Dec.{eqb}
 use lib.Pow.{pow-add, mod-pow-add}
 use Rattle.power.specs.declared.rounded.Rounding.{Rounding}
-use Rattle.power.specs.Power.{one, product, nextRoot, raise, climb, power}
+use Rattle.power.specs.Power.{one, scaledProduct, nextRoot, raise, climb, power}
 use Rattle.power.proofs.Powers.{mul-pow, pow-mul, pow-one, pow-double}
 use Rattle.power.proofs.Way.{Rounded, same, chain, times, cancel, raised, lowered, eased}
 use Rattle.power.proofs.Quotient.{quotient-rounded}
@@ -25,8 +25,8 @@ module _ {way : Rounding} {r : ℕ} where
   none : (K p : ℕ) → Reached way K 0 p p r
   none K p = record { reached = simp pow-zero (same way _) }
 
-  once : (p : ℕ) → Reached way 1 1 p (product way p r) r
-  unfolding product
+  once : (p : ℕ) → Reached way 1 1 p (scaledProduct way p r) r
+  unfolding scaledProduct
   once p = record { reached = simp pow-one (quotient-rounded way (p * r) one one-pos) }
 
   again : {K e p q : ℕ} (j : ℕ) → Reached way K e p q r → Reached way (K * j) (e * j) p q r
@@ -53,7 +53,7 @@ raise-reached zero r p = none 1 p
 raise-reached (suc n) r p = rw (← one-add n) (joined (once p) (raise-reached n r _))
 
 -- d is a bit of the exponent
-bit-reached : {way : Rounding} {r : ℕ} (K d p : ℕ) → d < 2 → Reached way K (d * K) p (cond (eqb d 1) (product way p r) p) r
+bit-reached : {way : Rounding} {r : ℕ} (K d p : ℕ) → d < 2 → Reached way K (d * K) p (cond (eqb d 1) (scaledProduct way p r) p) r
 bit-reached K zero p h = rw zero-mul (none K p)
 bit-reached {way} {r} K (suc zero) p h = simp one-mul (simp one-mul at (again {way = way} {r = r} K (once p)))
 bit-reached K (suc (suc d)) p h = absurd (omega arith)

@@ -7,7 +7,7 @@ use native.Mathlib.Omega.{arith}
 use lib.Dec.{eqb}
 use borrow.Author.Tests.{eq-eqb, ne-eqb}
 use Rattle.power.specs.declared.rounded.Rounding.{Rounding}
-use Rattle.power.specs.Power.{product, nextRoot, raise, climb}
+use Rattle.power.specs.Power.{scaledProduct, nextRoot, raise, climb}
 
 module _ (way : Rounding) where
   pub raise-done : (n r p : ℕ) → n ≤ 0 → raise way n r p ≡ p
@@ -15,7 +15,7 @@ module _ (way : Rounding) where
   raise-done zero r p h = refl
   raise-done (suc n) r p h = absurd (omega arith)
 
-  pub raise-turn : (n r p : ℕ) → 0 < n → raise way n r p ≡ raise way (n - 1) r (product way p r)
+  pub raise-turn : (n r p : ℕ) → 0 < n → raise way n r p ≡ raise way (n - 1) r (scaledProduct way p r)
   unfolding raise
   raise-turn zero r p h = absurd (omega arith)
   raise-turn (suc n) r p h =
@@ -27,14 +27,14 @@ module _ (way : Rounding) where
   climb-done zero r p c h = refl
   climb-done (suc k) r p c h = absurd (omega arith)
 
-  climb-turn : (k r p c : ℕ) → 0 < k → climb way k r p c ≡ climb way (k - 1) (nextRoot way r) (cond (eqb (c / 2 ^ (k - 1) % 2) 1) (product way p (nextRoot way r)) p) c
+  climb-turn : (k r p c : ℕ) → 0 < k → climb way k r p c ≡ climb way (k - 1) (nextRoot way r) (cond (eqb (c / 2 ^ (k - 1) % 2) 1) (scaledProduct way p (nextRoot way r)) p) c
   unfolding climb
   climb-turn zero r p c h = absurd (omega arith)
   climb-turn (suc k) r p c h =
       let e : suc k - 1 ≡ k = omega arith in
       rw e
 
-  pub climb-set : (k r p c : ℕ) → 0 < k → c / 2 ^ (k - 1) % 2 ≡ 1 → climb way k r p c ≡ climb way (k - 1) (nextRoot way r) (product way p (nextRoot way r)) c
+  pub climb-set : (k r p c : ℕ) → 0 < k → c / 2 ^ (k - 1) % 2 ≡ 1 → climb way k r p c ≡ climb way (k - 1) (nextRoot way r) (scaledProduct way p (nextRoot way r)) c
   climb-set k r p c h bit = rw (eq-eqb (c / 2 ^ (k - 1) % 2) 1 bit) at (climb-turn k r p c h)
 
   pub climb-clear : (k r p c : ℕ) → 0 < k → (c / 2 ^ (k - 1) % 2 ≡ 1 → ⊥) → climb way k r p c ≡ climb way (k - 1) (nextRoot way r) p c

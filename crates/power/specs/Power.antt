@@ -67,8 +67,8 @@ squareRoot Down x = sqrtDown x
 squareRoot Up x = sqrtUp x
 
 -- "A product is divided by one."
-unfoldable pub product : Rounding → ℕ → ℕ → ℕ
-product way p r = quotient way (p * r) one
+unfoldable pub scaledProduct : Rounding → ℕ → ℕ → ℕ
+scaledProduct way p r = quotient way (p * r) one
 
 -- "root j (1 to 24) is the square root of root j-1 times one"
 unfoldable pub nextRoot : Rounding → ℕ → ℕ
@@ -77,14 +77,14 @@ nextRoot way r = squareRoot way (r * one)
 -- p, "multiplied by r as often as" n says
 unfoldable pub raise : Rounding → (n r p : ℕ) → ℕ
 raise way zero r p = p
-raise way (suc n) r p = raise way n r (product way p r)
+raise way (suc n) r p = raise way n r (scaledProduct way p r)
 
 -- p on the last k roots, r being the one before them: "If the bit of value 2^(24-j) in the rest of c is set, multiply by root j."
 unfoldable pub climb : Rounding → (k r p c : ℕ) → ℕ
 climb way zero r p c = p
 climb way (suc k) r p c =
     let root : ℕ = nextRoot way r in
-    climb way k root (cond (eqb (c / 2 ^ k % 2) 1) (product way p root) p) c
+    climb way k root (cond (eqb (c / 2 ^ k % 2) 1) (scaledProduct way p root) p) c
 
 -- "The power of r with exponent c starts at one and is multiplied by r as often as c holds 2^24 whole. Root 0 is r"
 unfoldable pub power : Rounding → (r c : ℕ) → ℕ

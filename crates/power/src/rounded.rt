@@ -23,7 +23,7 @@ pub(crate) fn quotient(way: Rounding, a: u64, b: u64) -> u64
 
 pub(crate) fn product(way: Rounding, p: u64, r: u64) -> u64
     requires { ⌜ (p ≤ one) × (r ≤ one) ⌝ }
-    ensures { λ q. ⌜ q ≡ spec.product way p r ⌝ }
+    ensures { λ q. ⌜ q ≡ spec.scaledProduct way p r ⌝ }
 {
     quotient(way, p * r, ONE)
 }

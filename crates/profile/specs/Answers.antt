@@ -17,15 +17,15 @@ use Rattle.profile.specs.declared.WeightAnswer.{WeightAnswer}
 use Rattle.profile.specs.declared.WeightAnswer.the-variants as Weighed
 
 -- ---- profile by number
-abbrev pub byNumberRefusal : ℕ → ℕ
-byNumberRefusal k =
+abbrev pub profileNumber : ℕ → ℕ
+profileNumber k =
     row (leb profileCount k) 1  -- profile above 9
     0
 
 pub record ByNumberMet (k : ℕ) (r : Numbered) : Type 0 where
-  pub number : r .refusal ≡ byNumberRefusal k
-  pub profile : r .profile ≡ profileOf k
-  pub week : byNumberRefusal k ≡ 0 → sumOf (r .profile .factors) ≡ 70_000
+  pub answers : r .refusal ≡ profileNumber k
+  pub gives : r .profile ≡ profileOf k
+  pub week : profileNumber k ≡ 0 → sumOf (r .profile .factors) ≡ 70_000
 
 -- the limits, as the code names them
 pub record LimitsMet (cold warm : ℤ) (span count : ℕ) : Type 0 where
@@ -39,17 +39,17 @@ pub record WeightLimitsMet (least most : ℕ) : Type 0 where
   pub most-is : most ≡ weightMost
 
 -- ---- profile value
-abbrev pub valueRefusal : ℕ → ℤ → ℕ
-valueRefusal k t =
+abbrev pub valueNumber : ℕ → ℤ → ℕ
+valueNumber k t =
     row (leb profileCount k) 1  -- profile above 9
     (row (not (inRange t)) 4  -- first mean out of range
     0)
 
 -- the paper's number of an answer, and its low and high value; "The index of 4 is 0 for one temperature", so that no answer has one
-abbrev pub valueNumber : ValueAnswer → ℕ
-valueNumber (Valued.Value low high) = 0
-valueNumber Valued.NoProfile = 1
-valueNumber Valued.OutOfRange = 4
+abbrev pub valueAnswered : ValueAnswer → ℕ
+valueAnswered (Valued.Value low high) = 0
+valueAnswered Valued.NoProfile = 1
+valueAnswered Valued.OutOfRange = 4
 
 abbrev pub lowGiven : ValueAnswer → ℤ
 lowGiven (Valued.Value low high) = low
@@ -66,25 +66,25 @@ abbrev pub Enclosed : ℕ → ℤ → Type 0
 Enclosed k t = EnclosedPower (profileOf k) t
 
 pub record ValueMet (k : ℕ) (t : ℤ) (r : ValueAnswer) : Type 0 where
-  pub number : valueNumber r ≡ valueRefusal k t
-  pub low : lowGiven r ≡ ifDone (valueRefusal k t) (valueLow (profileOf k) t) (pos 0)
-  pub high : highGiven r ≡ ifDone (valueRefusal k t) (valueHigh (profileOf k) t) (pos 0)
-  pub encloses : valueRefusal k t ≡ 0 → Enclosed k t
+  pub answers : valueAnswered r ≡ valueNumber k t
+  pub low : lowGiven r ≡ ifDone (valueNumber k t) (valueLow (profileOf k) t) (pos 0)
+  pub high : highGiven r ≡ ifDone (valueNumber k t) (valueHigh (profileOf k) t) (pos 0)
+  pub powers-enclose : valueNumber k t ≡ 0 → Enclosed k t
 
 -- ---- day weight
-abbrev pub weightRefusal : ℕ → ℕ → ℤ → ℕ
-weightRefusal k weekday t =
+abbrev pub weightNumber : ℕ → ℕ → ℤ → ℕ
+weightNumber k weekday t =
     row (leb profileCount k) 1  -- profile above 9
     (row (ltb 6 weekday) 2  -- weekday above 6
     (row (not (inRange t)) 4  -- first mean out of range
     0))
 
 -- the paper's number of an answer, and its weight; no answer has an index
-abbrev pub weightNumber : WeightAnswer → ℕ
-weightNumber (Weighed.Weight w) = 0
-weightNumber Weighed.NoProfile = 1
-weightNumber Weighed.NoWeekday = 2
-weightNumber Weighed.OutOfRange = 4
+abbrev pub weightAnswered : WeightAnswer → ℕ
+weightAnswered (Weighed.Weight w) = 0
+weightAnswered Weighed.NoProfile = 1
+weightAnswered Weighed.NoWeekday = 2
+weightAnswered Weighed.OutOfRange = 4
 
 abbrev pub weightGiven : WeightAnswer → ℕ
 weightGiven (Weighed.Weight w) = w
@@ -93,8 +93,8 @@ weightGiven Weighed.NoWeekday = 0
 weightGiven Weighed.OutOfRange = 0
 
 pub record WeightMet (k weekday : ℕ) (t : ℤ) (r : WeightAnswer) : Type 0 where
-  pub number : weightNumber r ≡ weightRefusal k weekday t
-  pub weight : weightGiven r ≡ ifDone (weightRefusal k weekday t) (weightOf k weekday t) 0
-  pub floored : weightRefusal k weekday t ≡ 0 → floorWeight k weekday t ≡ pos (weightGiven r)
-  pub least : weightRefusal k weekday t ≡ 0 → weightLeast ≤ weightGiven r
-  pub most : weightRefusal k weekday t ≡ 0 → weightGiven r ≤ weightMost
+  pub answers : weightAnswered r ≡ weightNumber k weekday t
+  pub gives : weightGiven r ≡ ifDone (weightNumber k weekday t) (weightOf k weekday t) 0
+  pub floored : weightNumber k weekday t ≡ 0 → floorWeight k weekday t ≡ pos (weightGiven r)
+  pub least : weightNumber k weekday t ≡ 0 → weightLeast ≤ weightGiven r
+  pub most : weightNumber k weekday t ≡ 0 → weightGiven r ≤ weightMost

@@ -1,6 +1,6 @@
 -- Limits (Temperature of a day, Profiles): "Daily means are whole hundredths of a degree C, -5,000 to 3,999"; "A span has n days, 1 to 1,096";
 -- "The bounds on temperature, weight and span are named once"; "Every weight that the table can give is 1 to 6,999,999".
-use mathlib.Core.Bool.{Bool, _&&_}
+use mathlib.Core.Bool.{Bool, not, _&&_}
 use Prim.Native.Nat.{ℕ}
 use lib.Dec.{leb}
 use lib.IntN.{ℤ, pos, negℤ}
@@ -28,6 +28,10 @@ spanMost = 1_096
 -- a number of days that a span can have
 abbrev pub isSpan : ℕ → Bool
 isSpan n = leb 1 n && leb n spanMost
+
+-- "n outside 1 to 1,096"
+abbrev pub badSpan : ℕ → Bool
+badSpan n = not (isSpan n)
 
 -- numbers 0 to 9
 abbrev pub profileCount : ℕ

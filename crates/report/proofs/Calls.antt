@@ -12,7 +12,7 @@ use Rattle.history.specs.Run.{Event, Step, Run}
 use Rattle.history.specs.Run as run
 use Rattle.history.proofs.Theorem.{demand3}
 use Rattle.casefile.specs.Case.{readingsLength, cutsLength, emptyCase, withReadings, withCuts}
-use Rattle.casefile.specs.Faults.{none, faultOf}
+use Rattle.casefile.specs.Faults.{noFault, faultOf}
 use Rattle.casefile.proofs.Sound.{case-taken}
 use Rattle.report.specs.Calls.{readingCalls, cutCalls, FileDemand3}
 
@@ -23,7 +23,7 @@ Leads a es b = (fs : List Event) → Run b fs → Run a (es ++ fs)
 one-more : (a b : Account) (es : List Event) (e : Event) → Leads a es b → Step b e → Leads a (es ++ (e ∷ [])) (run.accountAfter e)
 one-more a b es e leads step fs r = subst (Run a) (sym (append-assoc es (e ∷ []) fs)) (leads (e ∷ fs) (step, r))
 
-module _ (s : List ℕ) (e : faultOf s ≡ none) where
+module _ (s : List ℕ) (e : faultOf s ≡ noFault) where
   readings-lead : (i : ℕ) → i ≤ readingsLength s → Leads (emptyCase s) (readingCalls s i) (withReadings s i)
   unfolding readingCalls withReadings
   readings-lead zero l = λ fs r. r

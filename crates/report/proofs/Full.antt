@@ -10,7 +10,7 @@ use borrow.Author.Tests.{le-ltb, ne-eqb}
 use lib.Dec.{ltb}
 use lib.ListN.{length, getD, replicate, length-append, length-map}
 use Rattle.profile.specs.Limits.{spanMost}
-use Rattle.account.specs.Below.{some, howMany}
+use Rattle.account.specs.Below.{somewhere, howMany}
 use Rattle.account.specs.Account.{days, shown, energyMost}
 use Rattle.account.proofs.Below.{none-is}
 use Rattle.account.proofs.Sound.{fit, sound-parts}
@@ -19,7 +19,7 @@ use Rattle.profile.specs.Rows.{filled}
 use Rattle.statement.specs.Parts.{Part, Outputs, parts, written}
 use Rattle.statement.specs.Shares.{total}
 use Rattle.statement.specs.Call.{statementRows}
-use Rattle.statement.proofs.Order.{fair-of-sound}
+use Rattle.statement.proofs.Order.{valid-of-sound}
 use Rattle.statement.proofs.Parts.{parts-fit}
 use Rattle.statement.proofs.Successive.{successive}
 use Rattle.statement.proofs.Facts.{sums-up}
@@ -49,13 +49,13 @@ in-full a number =
     let two = row-none (ltb (howMany (shown a .readings .at) (suc (days a))) 2) 11 0 (omega arith) (sym (rows-through a (statementRows (days a) (shown a)) ok) ∙ number) .0 in
     let ps = parts (a .weights) (shown a) in
     let o = written (days a) ps in
-    let sum = sums-up (a .weights) (shown a) (fair-of-sound a (ok .sound)) two in
+    let sum = sums-up (a .weights) (shown a) (valid-of-sound a (ok .sound)) two in
     let few = parts-fit (a .weights) (shown a) (days a) in
-    let small : some (λ i. ltb energyMost (getD (o .wh) i 0)) (length ps) ≡ false =
+    let small : somewhere (λ i. ltb energyMost (getD (o .wh) i 0)) (length ps) ≡ false =
     none-is _ (length ps) (λ i h. le-ltb energyMost (getD (o .wh) i 0) (omega (arith, total-grows o (length ps) i h, sum, sound-parts a (ok .sound) .energy))) in
     let is : noStatement o (length ps) ≡ false =
     simp (
-      ne-eqb (length ps) 0 (λ none. omega (arith, successive (a .weights) (shown a) two .some)),
+      ne-eqb (length ps) 0 (λ none. omega (arith, successive (a .weights) (shown a) two .not-empty)),
       le-ltb spanMost (length ps) (omega (arith, few, fit a (ok .fits) .most)),
       long-enough (λ (p : Part). p .from) (days a) ps,
       long-enough (λ (p : Part). p .to) (days a) ps,

@@ -1,3 +1,4 @@
+-- The laws that the proofs of crate report share, and its theorems.
 mod Taken
 pub mod Fits
 pub mod Full

@@ -8,32 +8,32 @@ use borrow.Author.Tests.{ne-eqb}
 use lib.Dec.{ltb, leb}
 use lib.ListN.{length, take, replicate, length-append}
 use lib.Seq.{take-at}
-use Rattle.profile.specs.Limits.{profileCount, spanMost, inRange}
-use Rattle.account.specs.Account.{Account, account, unfit, badSpan, energyMost}
-use Rattle.account.specs.Below.{some}
+use Rattle.profile.specs.Limits.{profileCount, spanMost, inRange, badSpan}
+use Rattle.account.specs.Account.{Account, account, unfit, energyMost}
+use Rattle.account.specs.Below.{somewhere}
 use Rattle.account.proofs.Below.{clash, refuted}
 use Rattle.layout.specs.Text.{refusalText}
 use Rattle.casefile.specs.Case.{profileByte, weekdayByte, meansLength, meanOffset, daysOf, readingsOffset, readingsLength, readingOffset, readingBoundary, readingCount, cutsOffset, cutsLength, cutOffset, cutBoundary, endOf, accountOf}
 use Rattle.casefile.specs.Bytes.{signed16}
-use Rattle.casefile.specs.Faults.{Fault, none, refused, fault, _before_, firstFault, early, falls, meanFault, readingFault, cutFault, faultOf, headFault, meansFault, readingsFault}
+use Rattle.casefile.specs.Faults.{Fault, noFault, refused, fault, _before_, firstFault, early, falls, meanFault, readingFault, cutFault, faultOf, headFault, meansFault, readingsFault}
 use Rattle.profile.specs.Rows.{filled}
 use Rattle.casefile.specs.Reader.{faultNumber, faultPlace, unfitSlices, verdict, full, ReadMet}
 use Rattle.casefile.specs.declared.CaseAnswer.the-variants.{Days, Refused}
-use Rattle.casefile.proofs.Filed.{Kept, cuts-kept}
+use Rattle.casefile.proofs.Kept.{Kept, cuts-kept}
 use Rattle.casefile.proofs.Sound.{days-kept, case-sound}
 use Rattle.layout.specs.Accounts.{accountText}
 use Rattle.report.specs.Report.{caseText}
 
 -- a fault that the paper has a number for
 pub record Numbered (f : Fault) : Type 0 where
-  pub none-if : faultNumber f ≡ 0 → f ≡ none
+  pub none-if : faultNumber f ≡ 0 → f ≡ noFault
 
 numbered-fault : (b : Bool) (n p : ℕ) → Numbered (fault b (suc n) p)
 numbered-fault true n p = record { none-if = λ e. absurd (omega (arith, e)) }
 numbered-fault false n p = record { none-if = λ e. refl }
 
 numbered-before : (f g : Fault) → Numbered f → Numbered g → Numbered (f before g)
-numbered-before none g a b = b
+numbered-before noFault g a b = b
 numbered-before (refused n k) g a b = record { none-if = a .none-if }
 
 numbered-first : (f : ℕ → Fault) → ((i : ℕ) → Numbered (f i)) → (m : ℕ) → Numbered (firstFault f m)
@@ -57,7 +57,7 @@ module _ (s : List ℕ) where
       ends (readingOffset s i + 10) _ (
       then (falls (readingBoundary s) i) 12 (readingOffset s i) _ (
       then (ltb (daysOf s) (readingBoundary s i)) 5 (readingOffset s i) _ (
-      then (some (λ j. ltb (readingCount s i) (readingCount s j)) i) 7 (readingOffset s i + 2) _
+      then (somewhere (λ j. ltb (readingCount s i) (readingCount s j)) i) 7 (readingOffset s i + 2) _
       (numbered-fault (ltb energyMost (readingCount s i - readingCount s 0)) 8 (readingOffset s i + 2)))))
 
   cut-numbered : (i : ℕ) → Numbered (cutFault s i)
@@ -108,19 +108,19 @@ module _ (s : List ℕ) (lent : Account) (accepted : faultNumber (verdict s lent
 module _ (s : List ℕ) (lent : Account) (number place : ℕ) (after : Account) (met : ReadMet s lent (Refused number place) after s) where
   pub refused-says : caseText s lent ≡ refusalText number place
   refused-says =
-      let declined : faultNumber (verdict s lent) ≡ 0 → ⊥ = λ e. some-days s lent e (sym (met .returns ∙ rw e refl)) in
+      let declined : faultNumber (verdict s lent) ≡ 0 → ⊥ = λ e. some-days s lent e (sym (met .gives ∙ rw e refl)) in
       let says : caseText s lent ≡ refusalText (faultNumber (verdict s lent)) (faultPlace (verdict s lent)) = simp (ne-eqb (faultNumber (verdict s lent)) 0 declined) in
-      says ∙ sym (ap₂ refusalText (met .numbers) (met .places))
+      says ∙ sym (ap₂ refusalText (met .answers) (met .places))
 
 module _ (s : List ℕ) (lent : Account) (n : ℕ) (after : Account) (met : ReadMet s lent (Days n) after s) where
   accepted : faultNumber (verdict s lent) ≡ 0
-  accepted = sym (met .numbers)
+  accepted = sym (met .answers)
 
   after-is : after ≡ full (accountOf s)
-  after-is = met .fills ∙ rw (fit s lent accepted, clean s lent accepted) refl
+  after-is = met .writes ∙ rw (fit s lent accepted, clean s lent accepted) refl
 
   days-are : n ≡ daysOf s
-  days-are = met .returns ∙ rw accepted refl
+  days-are = met .gives ∙ rw accepted refl
 
   kept : Kept s (accountOf s)
   kept = cuts-kept s (cutsLength s)

@@ -11,7 +11,7 @@ use Rattle.history.specs.Run.{Event}
 use Rattle.history.specs.Run as run
 use Rattle.history.specs.Demand3.{Demand3}
 use Rattle.casefile.specs.Case.{readingsLength, readingBoundary, readingCount, cutsLength, cutBoundary, emptyCase, withReadings, withCuts, accountOf}
-use Rattle.casefile.specs.Faults.{none, faultOf}
+use Rattle.casefile.specs.Faults.{noFault, faultOf}
 
 -- the first i readings, and after all of them the first i cuts, each with the account that it leaves
 unfoldable pub readingCalls : List ℕ → ℕ → List Event
@@ -25,6 +25,6 @@ cutCalls s (suc i) = cutCalls s i ++ (run.cut (cutBoundary s i) Done (withCuts s
 -- the statement of a file that the reader takes is one of demand 3, over the file's own calls (proofs/Calls, `file-demand3`)
 abbrev pub FileDemand3 : Type 0
 FileDemand3 =
-    (s : List ℕ) → faultOf s ≡ none →
+    (s : List ℕ) → faultOf s ≡ noFault →
     (lent : Outputs) (answer : StatementAnswer) (left : Account) (out : Outputs) → StatementMet (accountOf s) lent answer left out →
     Demand3 (emptyCase s .weights) (cutCalls s (cutsLength s) ++ (run.statement lent answer left out ∷ []))

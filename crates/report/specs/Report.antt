@@ -23,10 +23,10 @@ PrintedInFull = (a : Account) → accountNumber a ≡ 0 →
 
 -- a refusal with its place, or what the account that the file names comes to
 abbrev pub textOf : Fault → List ℕ → List ℕ
-textOf verdict s =
-    ifDone (faultNumber verdict)
+textOf fault s =
+    ifDone (faultNumber fault)
     (accountText (accountOf s))
-    (refusalText (faultNumber verdict) (faultPlace verdict))
+    (refusalText (faultNumber fault) (faultPlace fault))
 
 -- what the program prints of a file
 abbrev pub fileText : List ℕ → List ℕ
@@ -44,5 +44,5 @@ ProgramPrints = (s : List ℕ) → fileText (take bytesRead s) ≡ fileText s
 pub record CaseTextMet (file : List ℕ) (lent : Account) (out : List ℕ) (next : ℕ) (after : Account) (printed kept : List ℕ) : Type 0 where
   pub says : LaidOut 0 (caseText file lent) out next printed
   pub fits : next ≤ textMost
-  pub fills : after ≡ slicesAfter file lent
+  pub writes : after ≡ slicesAfter file lent
   pub stays : kept ≡ file

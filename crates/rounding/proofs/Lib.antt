@@ -1,1 +1,2 @@
+-- The laws that the proofs of crate rounding share, and its theorems.
 pub mod Laws

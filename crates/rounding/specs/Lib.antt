@@ -1,1 +1,2 @@
+-- What the contracts and claims of crate rounding cite (the paper's first paragraph).
 pub mod Nearest

@@ -7,7 +7,7 @@ use borrow.Author.Tests.{eq-eqb, ne-eqb}
 use lib.ListN.{length, getD, take, drop}
 use Rattle.script.specs.Words.{next, wordsLeft, every}
 use Rattle.script.specs.Numbers.{numberOf, isMean, most8, most64}
-use Rattle.script.specs.Calls.{commandOf, ofWords, named, with, when, onlyNumber, weekdayAndMeans, daysCall, readingCall}
+use Rattle.script.specs.Calls.{commandOf, ofWords, named, with, provided, onlyNumber, weekdayAndMeans, daysCall, readingCall}
 use Rattle.script.specs.declared.Decimal.{Decimal}
 use Rattle.script.specs.declared.Call.the-variants.{Reading}
 use Rattle.script.specs.declared.Command.the-variants.{Blank, Days, Change}
@@ -19,10 +19,10 @@ module _ (s : List ℕ) (at end : ℕ) (h : at < length s) (e : end ≡ next 32 
       ap daysCall (words-next s at end h e) ∙ ap (λ (x : Decimal). with x (λ p. weekdayAndMeans p (wordsLeft (drop end s)))) told
 
   pub weekday-of : (p : ℕ) → numberOf most8 (between s at end) ≡ d →
-      weekdayAndMeans p (wordsLeft (drop at s)) ≡ with d (λ w. when (every isMean (wordsLeft (drop end s))) (Days p w))
+      weekdayAndMeans p (wordsLeft (drop at s)) ≡ with d (λ w. provided (every isMean (wordsLeft (drop end s))) (Days p w))
   weekday-of p told =
       ap (weekdayAndMeans p) (words-next s at end h e) ∙
-      ap (λ (x : Decimal). with x (λ w. when (every isMean (wordsLeft (drop end s))) (Days p w))) told
+      ap (λ (x : Decimal). with x (λ w. provided (every isMean (wordsLeft (drop end s))) (Days p w))) told
 
   pub reading-of : (v : Decimal) → numberOf most64 (between s at end) ≡ d → onlyNumber (wordsLeft (drop end s)) ≡ v →
       readingCall (wordsLeft (drop at s)) ≡ with d (λ k. with v (λ count. Change (Reading k count)))

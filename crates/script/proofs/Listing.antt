@@ -33,7 +33,7 @@ module _ {A : Type 0} where
 
   pub filling-all : {values before : List A} {i : ℕ} {after : List A} {line : List ℕ} →
       Filling values before i [] after → Listed values before i after line line
-  filling-all f = record { counts = omega (arith, f .counts); stored = f .stored; stays = refl }
+  filling-all f = record { how-many = omega (arith, f .counts); stored = f .stored; stays = refl }
 
   -- what the words left from an offset on stand for, up to the first that fails a test
   module _ (test : List ℕ → Bool) (f : List ℕ → A) (s : List ℕ) (at : ℕ) where

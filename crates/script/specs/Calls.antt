@@ -1,4 +1,4 @@
--- The calls of a script: `weights W W ..`, `days PROFILE WEEKDAY MEAN MEAN ..`, `reading K COUNT`, `withdraw K`, `cut K`, `uncut K`, `statement`.
+-- The calls of a script (the console: docs/GUIDE.md): `weights W W ..`, `days PROFILE WEEKDAY MEAN MEAN ..`, `reading K COUNT`, `withdraw K`, `cut K`, `uncut K`, `statement`.
 -- Empty lines and lines that begin with `#` are no call; a line that is no call, or has a number that the call's type can't hold, is unknown.
 use Prim.Native.Nat.{ℕ}
 use mathlib.Core.Bool.{Bool, cond}
@@ -6,7 +6,6 @@ use mathlib.Core.List.{List, [], _∷_}
 use lib.Dec.{eqb}
 use lib.IntN.{ℤ}
 use lib.ListN.{drop}
-use Rattle.profile.specs.Rows.{row}
 use Rattle.script.specs.Words.{words, same, every}
 use Rattle.script.specs.Numbers.{value, isNumber, numberOf, isMean, hundredths, leading, most8, most32, most64}
 use Rattle.script.specs.declared.Decimal.{Decimal}
@@ -38,8 +37,8 @@ abbrev pub statementName : List ℕ
 statementName = 115 ∷ 116 ∷ 97 ∷ 116 ∷ 101 ∷ 109 ∷ 101 ∷ 110 ∷ 116 ∷ []
 
 -- a command under a condition, and one made of a number
-abbrev pub when : Bool → Command → Command
-when holds command = cond holds command Unknown
+abbrev pub provided : Bool → Command → Command
+provided holds command = cond holds command Unknown
 
 abbrev pub with : Decimal → (ℕ → Command) → Command
 with (Number n) command = command n
@@ -53,12 +52,12 @@ onlyNumber (w ∷ x ∷ ws) = NoNumber
 
 -- `weights`: each word after it is a weight of 32 bits
 abbrev pub weightsCall : List (List ℕ) → Command
-weightsCall ws = when (every (isNumber most32) ws) Weights
+weightsCall ws = provided (every (isNumber most32) ws) Weights
 
 -- `days`: a profile and a weekday of 8 bits, and each word after them a mean
 abbrev pub weekdayAndMeans : ℕ → List (List ℕ) → Command
 weekdayAndMeans profile [] = Unknown
-weekdayAndMeans profile (w ∷ ws) = with (numberOf most8 w) (λ weekday. when (every isMean ws) (Days profile weekday))
+weekdayAndMeans profile (w ∷ ws) = with (numberOf most8 w) (λ weekday. provided (every isMean ws) (Days profile weekday))
 
 abbrev pub daysCall : List (List ℕ) → Command
 daysCall [] = Unknown
@@ -77,9 +76,9 @@ statementCall (x ∷ ws) = Unknown
 -- `withdraw`, `cut` and `uncut`: a boundary of 64 bits, and no more
 abbrev pub boundaryCall : List ℕ → ℕ → Command
 boundaryCall name k =
-    row (same name withdrawName) (Change (Withdraw k))
-    (row (same name cutName) (Change (Cut k))
-    (row (same name uncutName) (Change (Uncut k))
+    cond (same name withdrawName) (Change (Withdraw k))
+    (cond (same name cutName) (Change (Cut k))
+    (cond (same name uncutName) (Change (Uncut k))
     Unknown))
 
 abbrev pub onBoundary : List ℕ → List (List ℕ) → Command
@@ -88,10 +87,10 @@ onBoundary name ws = with (onlyNumber ws) (boundaryCall name)
 -- a call by its name and the words after it
 abbrev pub named : List ℕ → List (List ℕ) → Command
 named name ws =
-    row (same name weightsName) (weightsCall ws)
-    (row (same name daysName) (daysCall ws)
-    (row (same name readingName) (readingCall ws)
-    (row (same name statementName) (statementCall ws)
+    cond (same name weightsName) (weightsCall ws)
+    (cond (same name daysName) (daysCall ws)
+    (cond (same name readingName) (readingCall ws)
+    (cond (same name statementName) (statementCall ws)
     (onBoundary name ws))))
 
 abbrev pub ofWords : List (List ℕ) → Command

@@ -1,4 +1,4 @@
--- The numbers of a script: decimal, a minus sign before a negative one, and none that the call's type can't hold.
+-- The numbers of a script (the console: docs/GUIDE.md): decimal, a minus sign before a negative one, and none that the call's type can't hold.
 use Prim.Native.Nat.{ℕ, _+_, _-_, _*_}
 use mathlib.Core.Path.{_≡_}
 use mathlib.Core.Bool.{Bool, false, cond, not, _&&_}
@@ -62,6 +62,6 @@ module _ {A : Type 0} where
   -- a list read off a lent line, which is unchanged, and stored from the start of a lent slice, as much of it as fits, the rest untouched;
   -- its whole length is returned
   pub record Listed (values before : List A) (count : ℕ) (after : List A) (line kept : List ℕ) : Type 0 where
-    pub counts : count ≡ length values
+    pub how-many : count ≡ length values
     pub stored : after ≡ sets before 0 values
     pub stays : kept ≡ line

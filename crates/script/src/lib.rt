@@ -1,4 +1,4 @@
-// The language of the console's scripts: lines, words, decimal numbers and calls.
+// The language of the console's scripts (the console: docs/GUIDE.md): lines, words, decimal numbers and calls.
 mod calls;
 mod lists;
 mod words;

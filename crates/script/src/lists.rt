@@ -1,4 +1,4 @@
-// The weights and the means at the end of a line: judged, and stored in a lent slice.
+// The weights and the means at the end of a line (the console: docs/GUIDE.md): judged, and stored in a lent slice.
 use crate::Decimal;
 use crate::Hundredths;
 use crate::mean;

@@ -1,4 +1,4 @@
-// Lines, words between spaces, and whether two are the same.
+// Lines, words between spaces, and whether two are the same (the console: docs/GUIDE.md).
 ghost use mathlib.Core.Path.{_≡_};
 ghost use Rattle.script.specs.Words.{next, wordsLeft, same};
 ghost use Rattle.script.specs.Input.{afterFeed};

@@ -16,7 +16,7 @@ use Rattle.script.specs.Numbers.{most64}
 use Rattle.script.specs.Input.{scriptMost, scriptOf}
 use Rattle.script.proofs.Input.{enough-read}
 use Rattle.script.specs.Calls.{commandOf}
-use Rattle.session.specs.Lines.{Session, session, says, next}
+use Rattle.session.specs.Lines.{Session, session, says, nextSession}
 use Rattle.session.specs.Transcript.{lines, transcript, sessionAfter, longest, oneMore, runnable, passed, offsetAfter, RunMet}
 use Rattle.session.specs.Script.{OneRun, Runs, printed, scriptText, fresh, RunsJoin, ConsolePrints}
 use Rattle.session.specs.declared.Ran.{Ran}
@@ -28,18 +28,18 @@ runnable-fits : (ls : List (List ℕ)) (done : ℕ) (s : Session) (room : ℕ) �
 unfolding runnable transcript
 runnable-fits [] done s room = zero≤
 runnable-fits (line ∷ rest) done s room =
-    by (oneMore done room) refl (runnable-fits rest (done + 1) (next (commandOf line) line s) (room - length (says (commandOf line) line (done + 1) s)))
+    by (oneMore done room) refl (runnable-fits rest (done + 1) (nextSession (commandOf line) line s) (room - length (says (commandOf line) line (done + 1) s)))
   where
     told : List ℕ
     told = says (commandOf line) line (done + 1) s
 
     more : List (List ℕ)
-    more = runnable rest (done + 1) (next (commandOf line) line s) (room - length told)
+    more = runnable rest (done + 1) (nextSession (commandOf line) line s) (room - length told)
 
-    by : (goes : Bool) → oneMore done room ≡ goes → length (transcript more (done + 1) (next (commandOf line) line s)) ≤ room - length told →
+    by : (goes : Bool) → oneMore done room ≡ goes → length (transcript more (done + 1) (nextSession (commandOf line) line s)) ≤ room - length told →
         length (transcript (cond goes (line ∷ more) []) done s) ≤ room
     by true goes h =
-        omega (arith, h, says-short (commandOf line) line (done + 1) s, room-left done room goes, length-append told (transcript more (done + 1) (next (commandOf line) line s)))
+        omega (arith, h, says-short (commandOf line) line (done + 1) s, room-left done room goes, length-append told (transcript more (done + 1) (nextSession (commandOf line) line s)))
     by false goes h = zero≤
 
 -- the lines run are the first ones
@@ -47,10 +47,10 @@ runnable-first : (ls : List (List ℕ)) (done : ℕ) (s : Session) (room : ℕ) 
 unfolding runnable
 runnable-first [] done s room = ([], refl)
 runnable-first (line ∷ rest) done s room =
-    by (oneMore done room) (runnable-first rest (done + 1) (next (commandOf line) line s) (room - length (says (commandOf line) line (done + 1) s)))
+    by (oneMore done room) (runnable-first rest (done + 1) (nextSession (commandOf line) line s) (room - length (says (commandOf line) line (done + 1) s)))
   where
     more : List (List ℕ)
-    more = runnable rest (done + 1) (next (commandOf line) line s) (room - length (says (commandOf line) line (done + 1) s))
+    more = runnable rest (done + 1) (nextSession (commandOf line) line s) (room - length (says (commandOf line) line (done + 1) s))
 
     by : (goes : Bool) → ((ms : List (List ℕ)) × (rest ≡ more ++ ms)) → (ms : List (List ℕ)) × (line ∷ rest ≡ cond goes (line ∷ more) [] ++ ms)
     by true first = (first .0, ap (λ (ls : List (List ℕ)). line ∷ ls) (first .1))
@@ -89,14 +89,14 @@ module _ (text : List ℕ) (at done : ℕ) (s : Session) (out : List ℕ) (ran :
 
   -- the answers lie within the slice, and are all of them
   pub run-within : ran .length ≤ length written
-  run-within = start-within (met .answers) fits
+  run-within = start-within (met .prints) fits
 
   run-prints : take (ran .length) written ≡ answers
-  run-prints = start-is (met .answers) fits
+  run-prints = start-is (met .prints) fits
 
   -- each line is at least a byte
   pub run-passes : ran .done + at ≤ done + ran .at
-  run-passes = omega (arith, met .counts, met .next-is, offset-least (passed text at done s out) at)
+  run-passes = omega (arith, met .lines-done, met .next-is, offset-least (passed text at done s out) at)
 
   -- a run goes on where a line is left and the slice can hold an answer
   pub run-goes-on : at < length text → longest ≤ length out → done < most64 → at < ran .at
@@ -116,7 +116,7 @@ module _ (text : List ℕ) (at done : ℕ) (s : Session) (out : List ℕ) (ran :
       let ms : List (List ℕ) = first .0 in
       let rest : transcript (lines (drop (ran .at) text)) (ran .done) (session (ran .days) then) ≡ transcript ms (done + length ls) (sessionAfter ls s) =
       ap (λ (l : List (List ℕ)). transcript l (ran .done) (session (ran .days) then)) (ap (λ (k : ℕ). lines (drop k text)) (met .next-is) ∙ lines-after ls ms text at (first .1)) ∙
-      ap₂ (transcript ms) (met .counts) (met .leaves) in
+      ap₂ (transcript ms) (met .lines-done) (met .leaves) in
       ap (λ (l : List (List ℕ)). transcript l done s) (first .1) ∙
       transcript-join ms ls done s ∙
       sym (ap₂ (λ (a b : List ℕ). a ++ b) run-prints rest)
@@ -124,7 +124,7 @@ module _ (text : List ℕ) (at done : ℕ) (s : Session) (out : List ℕ) (ran :
 -- from any offset on
 join : (text : List ℕ) (rs : List OneRun) (at done : ℕ) (s : Session) → Runs text at done s rs → printed rs ≡ transcript (lines (drop at text)) done s
 unfolding transcript lines
-join text [] at done s all = rw (drop-of-length-le text all) refl
+join text [] at done s all = rw (drop-of-length-le text {i = at} (omega arith)) refl
 join text (r ∷ rs) at done s (met, more) =
     ap (λ (t : List ℕ). take (r .ran .length) (r .written) ++ t) (join text rs (r .ran .at) (r .ran .done) (session (r .ran .days) (r .then)) more) ∙
     sym (run-then text at done s (r .lent) (r .ran) (r .then) (r .written) text met)

@@ -1,8 +1,10 @@
+-- The laws that the proofs of crate session share, and its theorems.
 mod Parts
 mod Opening
 mod Stepping
 mod Short
 mod Running
 pub mod Joined
+pub mod EveryScript
 pub mod Sent
 pub mod ReadBack

@@ -16,7 +16,7 @@ use Rattle.profile.specs.Limits.{spanMost, isSpan, profileCount}
 use Rattle.script.specs.Numbers.{Listed}
 use Rattle.account.specs.Calls.{OpenMet, cleared, number}
 use Rattle.weights.specs.Means.{firstOut, someOut}
-use Rattle.weights.specs.Weights.{Outcome, outcome, unfit, weightsOf}
+use Rattle.weights.specs.Weights.{Ruling, ruling, unfit, weightsOf}
 use Rattle.weights.specs.Weights as weights
 use Rattle.weights.specs.declared.WeightsAnswer.{WeightsAnswer}
 use Rattle.weights.specs.declared.WeightsAnswer.the-variants.{Done, Unfit, NoProfile, NoWeekday, OutOfRange}
@@ -27,7 +27,7 @@ use Rattle.session.specs.declared.Opened.{Opened}
 use Rattle.session.proofs.Parts.{take-least}
 
 -- an answer that refuses an offer and leaves the buffers
-pub refused-met : (o : Outcome) (b : Account) (r : Opened) → r .number ≡ openedNumber o b → (openedNumber o b ≡ 0 → ⊥) →
+pub refused-met : (o : Ruling) (b : Account) (r : Opened) → r .number ≡ openedNumber o b → (openedNumber o b ≡ 0 → ⊥) →
     r .place ≡ o .place → r .days ≡ 0 → OpenedMet o b r b
 refused-met o b r answers refused places none =
     record {
@@ -97,11 +97,11 @@ too-many ws b h = simp (lt-leb (length ws) spanMost h, and-false) (either (ltb (
 pub listed-take : {A : Type 0} {values before : List A} {n : ℕ} {after : List A} {line kept : List ℕ} →
     Listed values before n after line kept → n ≤ length before → take n after ≡ values
 listed-take {values = values} {before = before} {n = n} listed room =
-    let fits : 0 + length values ≤ length before = omega (arith, listed .counts) in
-    ap (take n) (listed .stored ∙ sets-eq values before 0 fits) ∙ take-at values (drop (0 + length values) before) n (sym (listed .counts))
+    let fits : 0 + length values ≤ length before = omega (arith, listed .how-many) in
+    ap (take n) (listed .stored ∙ sets-eq values before 0 fits) ∙ take-at values (drop (0 + length values) before) n (sym (listed .how-many))
 
 -- an offer that is a refusal already
-pub offer-refused : (o : Outcome) (b : Account) (r : Opened) → (o .number ≡ 0 → ⊥) → r .number ≡ o .number →
+pub offer-refused : (o : Ruling) (b : Account) (r : Opened) → (o .number ≡ 0 → ⊥) → r .number ≡ o .number →
     r .place ≡ o .place → r .days ≡ 0 → OpenedMet o b r b
 offer-refused o b r refuses answers places none =
     let is : openedNumber o b ≡ o .number = simp (ne-eqb (o .number) 0 refuses) in
@@ -109,11 +109,11 @@ offer-refused o b r refuses answers places none =
 
 -- the same offer, whatever the slice held that the weights were worked out in
 pub same-offer : (profile weekday : ℕ) (means : List ℤ) (x y : List ℕ) → length x ≡ length y → (b : Account) (r : Opened) (then : Account) →
-    OpenedMet (outcome profile weekday means x) b r then → OpenedMet (outcome profile weekday means y) b r then
+    OpenedMet (ruling profile weekday means x) b r then → OpenedMet (ruling profile weekday means y) b r then
 same-offer profile weekday means x y e b r then met =
     by (unfit means y) (leb profileCount profile) (ltb 6 weekday) (someOut means) (rw e at met)
   where
-    rows : Bool → Bool → Bool → Bool → List ℕ → Outcome
+    rows : Bool → Bool → Bool → Bool → List ℕ → Ruling
     rows short noProfile noWeekday out before =
         row short (record { number = 3; place = 0; memory = before })
         (row noProfile (record { number = 1; place = 0; memory = zeros y })
@@ -134,7 +134,7 @@ no-place NoWeekday e = refl
 no-place (OutOfRange k) e = absurd (omega (arith, e))
 
 -- an accepted offer is its weights
-pub offer-is : (o : Outcome) (ws : List ℕ) → o .number ≡ 0 → o .place ≡ 0 → ws ≡ o .memory → offered ws ≡ o
+pub offer-is : (o : Ruling) (ws : List ℕ) → o .number ≡ 0 → o .place ≡ 0 → ws ≡ o .memory → offered ws ≡ o
 offer-is o ws zero place is =
     ap (λ (n : ℕ). record { number = n; place = 0; memory = ws }) (sym zero) ∙
     ap (λ (p : ℕ). record { number = o .number; place = p; memory = ws }) (sym place) ∙
@@ -142,7 +142,7 @@ offer-is o ws zero place is =
 
 -- means for no day, or for more than a span has
 pub unspanned : (profile weekday : ℕ) (means : List ℤ) (x : List ℕ) → isSpan (length means - 3) ≡ false →
-    (outcome profile weekday means x .number ≡ 3) × (outcome profile weekday means x .place ≡ 0)
+    (ruling profile weekday means x .number ≡ 3) × (ruling profile weekday means x .place ≡ 0)
 unspanned profile weekday means x e = (simp e, simp e)
 
 pub too-few : (n : ℕ) → n < 1 → isSpan n ≡ false

@@ -19,7 +19,7 @@ use Rattle.script.proofs.Split.{upTo-short}
 use Rattle.script.specs.Words.{upTo, lineEnd}
 use Rattle.script.specs.Numbers.{most64}
 use Rattle.script.specs.Calls.{commandOf}
-use Rattle.session.specs.Lines.{Session, session, says, next, StepMet}
+use Rattle.session.specs.Lines.{Session, session, says, nextSession, StepMet}
 use Rattle.session.specs.Transcript.{begun, lines, transcript, sessionAfter, longest, oneMore, runnable, passed, offsetAfter, GatheredMet, RunMet}
 use Rattle.session.specs.declared.Said.{Said}
 use Rattle.session.specs.declared.Ran.{Ran}
@@ -73,7 +73,7 @@ module _ (ms : List (List ℕ)) where
   transcript-join [] before s = rw add-zero refl
   transcript-join (x ∷ ls) before s =
       let told : List ℕ = says (commandOf x) x (before + 1) s in
-      let then : Session = next (commandOf x) x s in
+      let then : Session = nextSession (commandOf x) x s in
       let far : before + 1 + length ls ≡ before + suc (length ls) = omega arith in
       ap (λ (t : List ℕ). told ++ t) (transcript-join ls (before + 1) then) ∙
       sym (append-assoc told (transcript ls (before + 1) then) (transcript ms (before + 1 + length ls) (sessionAfter ls then))) ∙
@@ -82,7 +82,7 @@ module _ (ms : List (List ℕ)) where
   session-join : (ls : List (List ℕ)) (s : Session) → sessionAfter (ls ++ ms) s ≡ sessionAfter ms (sessionAfter ls s)
   unfolding sessionAfter
   session-join [] s = refl
-  session-join (x ∷ ls) s = session-join ls (next (commandOf x) x s)
+  session-join (x ∷ ls) s = session-join ls (nextSession (commandOf x) x s)
 
   offset-join : (ls : List (List ℕ)) (at : ℕ) → offsetAfter at (ls ++ ms) ≡ offsetAfter (offsetAfter at ls) ms
   unfolding offsetAfter
@@ -98,7 +98,7 @@ module _ (line : List ℕ) where
       transcript-join (line ∷ []) ls before s ∙
       ap (λ (t : List ℕ). transcript ls before s ++ t) (append-nil (says (commandOf line) line (before + length ls + 1) (sessionAfter ls s)))
 
-  session-more : (ls : List (List ℕ)) (s : Session) → sessionAfter (ls ++ (line ∷ [])) s ≡ next (commandOf line) line (sessionAfter ls s)
+  session-more : (ls : List (List ℕ)) (s : Session) → sessionAfter (ls ++ (line ∷ [])) s ≡ nextSession (commandOf line) line (sessionAfter ls s)
   unfolding sessionAfter
   session-more ls s = session-join (line ∷ []) ls s
 
@@ -115,7 +115,7 @@ offset-least (x ∷ ls) at = omega (arith, offset-least ls (at + length x + 1))
 module _ (done : ℕ) (s : Session) (room : ℕ) where
   pub runnable-more : (line : List ℕ) (rest : List (List ℕ)) → oneMore done room ≡ true →
       runnable (line ∷ rest) done s room ≡
-      line ∷ runnable rest (done + 1) (next (commandOf line) line s) (room - length (says (commandOf line) line (done + 1) s))
+      line ∷ runnable rest (done + 1) (nextSession (commandOf line) line s) (room - length (says (commandOf line) line (done + 1) s))
   unfolding runnable
   runnable-more line rest goes = simp goes
 
@@ -172,12 +172,12 @@ pub gathered-met : (line : List ℕ) (l : ℕ) (s : Session) (out : List ℕ) (f
 gathered-met line l s out filled said then part room met =
     let k : ℕ = length out - filled in
     let text : List ℕ = says (commandOf line) line l s in
-    let is : said .length ≡ length text = omega (arith, met .answers .ends) in
+    let is : said .length ≡ length text = omega (arith, met .prints .ends) in
     let fits : filled + length text ≤ length out = omega (arith, says-short (commandOf line) line l s) in
     let put : putMid filled k out part ≡ sets out filled text =
-    ap (putMid filled k out) (met .answers .stored) ∙ gathered out text filled fits in
+    ap (putMid filled k out) (met .prints .stored) ∙ gathered out text filled fits in
     record {
-      answers = record { ends = ap (λ (n : ℕ). filled + n) is; stored = put };
+      prints = record { ends = ap (λ (n : ℕ). filled + n) is; stored = put };
       within = omega (arith, ap length put, length-sets out filled text, is, fits);
       leaves = met .leaves;
     }
@@ -185,10 +185,10 @@ gathered-met line l s out filled said then part room met =
 -- a script run so far: these lines are passed, their answers laid out in n bytes, and those left are run from here
 pub record Going (text : List ℕ) (at done : ℕ) (before : Session) (out : List ℕ) (next-at next-done : ℕ) (s : Session) (written : List ℕ) (n : ℕ) : Type 0 where
   pub so-far : List (List ℕ)
-  pub answers : LaidOut 0 (transcript so-far done before) out n written
+  pub prints : LaidOut 0 (transcript so-far done before) out n written
   pub within : n ≤ length out
   pub leaves : s ≡ sessionAfter so-far before
-  pub counts : next-done ≡ done + length so-far
+  pub lines-done : next-done ≡ done + length so-far
   pub next-is : next-at ≡ offsetAfter at so-far
   pub left : passed text at done before out ≡ so-far ++ runnable (lines (drop next-at text)) next-done s (length out - n)
 
@@ -199,10 +199,10 @@ module _ (text : List ℕ) (at done : ℕ) (before : Session) (out : List ℕ) w
       let room : length out ≡ length out - 0 = omega arith in
       record {
         so-far = [];
-        answers = record { ends = refl; stored = refl };
+        prints = record { ends = refl; stored = refl };
         within = zero≤;
         leaves = refl;
-        counts = sym (add-zero done);
+        lines-done = sym (add-zero done);
         next-is = refl;
         left = ap (runnable (lines (drop at text)) done before) room;
       }
@@ -218,16 +218,16 @@ module _ (text : List ℕ) (at done : ℕ) (before : Session) (out : List ℕ) w
       let more : List (List ℕ) = lines (drop (end + 1) text) in
       let text-of : List ℕ = says (commandOf line) line (d + 1) s in
       let told : text-of ≡ says (commandOf line) line (done + length ls + 1) (sessionAfter ls before) =
-      ap₂ (λ (l : ℕ) (t : Session). says (commandOf line) line (l + 1) t) (g .counts) (g .leaves) in
-      let long : said .length ≡ length text-of = omega (arith, met .answers .ends) in
+      ap₂ (λ (l : ℕ) (t : Session). says (commandOf line) line (l + 1) t) (g .lines-done) (g .leaves) in
+      let long : said .length ≡ length text-of = omega (arith, met .prints .ends) in
       let smaller : room - length text-of ≡ length out - (n + said .length) = omega arith in
       let width : length line ≡ end - k = length-take-le (end - k) (drop k text) (omega (arith, line-within text k end h e, length-drop k text)) in
       record {
         so-far = ls ++ (line ∷ []);
-        answers = rw (transcript-more line ls done before, ← told) (then-laid (g .answers) (met .answers));
+        prints = rw (transcript-more line ls done before, ← told) (then-laid (g .prints) (met .prints));
         within = omega (arith, long, says-short (commandOf line) line (d + 1) s, room-left d room goes);
-        leaves = met .leaves ∙ ap (next (commandOf line) line) (g .leaves) ∙ sym (session-more line ls before);
-        counts = omega (arith, g .counts, length-append ls (line ∷ []));
+        leaves = met .leaves ∙ ap (nextSession (commandOf line) line) (g .leaves) ∙ sym (session-more line ls before);
+        lines-done = omega (arith, g .lines-done, length-append ls (line ∷ []));
         next-is = omega (arith, offset-more line ls at, g .next-is, width, line-within text k end h e);
         left =
             g .left ∙
@@ -246,9 +246,9 @@ module _ (text : List ℕ) (at done : ℕ) (before : Session) (out : List ℕ) w
       let same : ls ≡ passed text at done before out =
       sym (g .left ∙ ap (λ (t : List (List ℕ)). ls ++ t) (stopped (ran .done) (session (ran .days) then) (length out - ran .length) text (ran .at) stops) ∙ append-nil ls) in
       record {
-        answers = subst (λ (l : List (List ℕ)). LaidOut 0 (transcript l done before) out (ran .length) written) same (g .answers);
+        prints = subst (λ (l : List (List ℕ)). LaidOut 0 (transcript l done before) out (ran .length) written) same (g .prints);
         leaves = g .leaves ∙ ap (λ (l : List (List ℕ)). sessionAfter l before) same;
-        counts = g .counts ∙ ap (λ (l : List (List ℕ)). done + length l) same;
+        lines-done = g .lines-done ∙ ap (λ (l : List (List ℕ)). done + length l) same;
         next-is = g .next-is ∙ ap (offsetAfter at) same;
         stays = refl;
       }

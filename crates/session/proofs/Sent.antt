@@ -13,7 +13,7 @@ use Rattle.script.specs.Calls.{commandOf}
 use Rattle.script.specs.Numbers.{most64}
 use Rattle.script.specs.Input.{scriptMost, wholeLines, scriptOf}
 use Rattle.script.proofs.Input.{enough-read}
-use Rattle.session.specs.Lines.{Session, session, says, next}
+use Rattle.session.specs.Lines.{Session, session, says, nextSession}
 use Rattle.session.specs.Transcript.{begun, lines, transcript, longest, RunMet}
 use Rattle.session.specs.Script.{scriptText, fresh, Continues}
 use Rattle.session.specs.declared.Ran.{Ran}
@@ -95,7 +95,7 @@ unfolding transcript
 transcript-short [] done s = zero≤
 transcript-short (line ∷ rest) done s =
     let told : List ℕ = says (commandOf line) line (done + 1) s in
-    let then : Session = next (commandOf line) line s in
+    let then : Session = nextSession (commandOf line) line s in
     omega (arith, says-short (commandOf line) line (done + 1) s, transcript-short rest (done + 1) then, length-append told (transcript rest (done + 1) then))
 
 text-short : (input : List ℕ) → length (scriptText (scriptOf input)) ≤ (scriptMost + 1) * longest

@@ -1,4 +1,4 @@
--- One call of a script on a session's buffers: the number answered and what the buffers hold after it.
+-- One call of a script on a session's buffers (the console: docs/GUIDE.md): the number answered and what the buffers hold after it.
 use Prim.Native.Nat.{ℕ, _+_, _-_}
 use mathlib.Core.Path.{_≡_}
 use mathlib.Core.List.{List}
@@ -8,7 +8,7 @@ use Rattle.account.specs.Account.{Account, account, days}
 use Rattle.profile.specs.Rows.{row, ifDone}
 use Rattle.account.specs.Refusals.{openNumber, readingNumber, withdrawNumber, cutNumber, uncutNumber}
 use Rattle.account.specs.Calls.{cleared, readingPut, readingTaken, cutPut, cutTaken}
-use Rattle.weights.specs.Weights.{Outcome, outcome}
+use Rattle.weights.specs.Weights.{Ruling, ruling}
 use Rattle.script.specs.Calls.{weightsIn, meansIn}
 use Rattle.script.specs.declared.Call.{Call}
 use Rattle.script.specs.declared.Call.the-variants.{Reading, Withdraw, Cut, Uncut}
@@ -41,14 +41,14 @@ pub record ChangeMet (n : ℕ) (c : Call) (before : Account) (number : ℕ) (the
   pub leaves : then ≡ laid (after (held n before) c) before
 
 -- what `weights` and `days` offer to open over: the number and place of a refusal, or 0 and the weights
-abbrev pub offered : List ℕ → Outcome
+abbrev pub offered : List ℕ → Ruling
 offered ws = record { number = 0; place = 0; memory = ws }
 
-abbrev pub weightsOffer : List ℕ → Outcome
+abbrev pub weightsOffer : List ℕ → Ruling
 weightsOffer line = offered (weightsIn line)
 
-abbrev pub daysOffer : ℕ → ℕ → List ℕ → Outcome
-daysOffer profile weekday line = outcome profile weekday (meansIn line) (replicate (length (meansIn line) - 3) 0)
+abbrev pub daysOffer : ℕ → ℕ → List ℕ → Ruling
+daysOffer profile weekday line = ruling profile weekday (meansIn line) (replicate (length (meansIn line) - 3) 0)
 
 -- the account that is opened over these weights, its marks and counts as the buffers have them
 abbrev pub candidate : List ℕ → Account → Account
@@ -58,17 +58,17 @@ candidate ws b = account ws (take (length ws + 1) (b .marks)) (take (length ws +
 abbrev pub opensNumber : List ℕ → Account → ℕ
 opensNumber ws b = row (ltb (length (b .weights)) (length ws)) 3 (openNumber (candidate ws b))
 
-abbrev pub openedNumber : Outcome → Account → ℕ
+abbrev pub openedNumber : Ruling → Account → ℕ
 openedNumber o b = ifDone (o .number) (opensNumber (o .memory) b) (o .number)
 
 -- a refused `weights` or `days` leaves the account as it was
-abbrev pub openedDays : Outcome → Account → ℕ
+abbrev pub openedDays : Ruling → Account → ℕ
 openedDays o b = ifDone (openedNumber o b) (length (o .memory)) 0
 
-abbrev pub openedBuffers : Outcome → Account → Account
+abbrev pub openedBuffers : Ruling → Account → Account
 openedBuffers o b = ifDone (openedNumber o b) (laid (cleared (candidate (o .memory) b)) b) b
 
-pub record OpenedMet (o : Outcome) (before : Account) (opened : Opened) (then : Account) : Type 0 where
+pub record OpenedMet (o : Ruling) (before : Account) (opened : Opened) (then : Account) : Type 0 where
   pub answers : opened .number ≡ openedNumber o before
   pub places : opened .place ≡ o .place
   pub returns : opened .days ≡ openedDays o before

@@ -1,3 +1,4 @@
+-- What the contracts and claims of crate session cite (the console: docs/GUIDE.md).
 pub mod Buffers
 pub mod Calls
 pub mod Lines

@@ -1,4 +1,4 @@
--- What a line of a script says and does: for each call one answer, `done`, or `refused NUMBER PLACE`, or the statement. Empty lines and lines
+-- What a line of a script says and does (the console: docs/GUIDE.md): for each call one answer, `done`, or `refused NUMBER PLACE`, or the statement. Empty lines and lines
 -- that begin with `#` print nothing; a line that is no call, or has a number that the call's type can't hold, prints `unknown LINE` and
 -- changes nothing.
 use Prim.Native.Nat.{ℕ}
@@ -6,7 +6,7 @@ use mathlib.Core.Path.{_≡_}
 use mathlib.Core.List.{List, []}
 use Rattle.profile.specs.Rows.{ifDone}
 use Rattle.account.specs.Account.{Account}
-use Rattle.weights.specs.Weights.{Outcome}
+use Rattle.weights.specs.Weights.{Ruling}
 use Rattle.layout.specs.Text.{doneText, refusalText, unknownText, LaidOut}
 use Rattle.layout.specs.Accounts.{accountText}
 use Rattle.script.specs.Calls.{commandOf}
@@ -28,10 +28,10 @@ abbrev pub session : ℕ → Account → Session
 session n b = record { days = n; buffers = b }
 
 -- what opening over an offer says, and the session after it
-abbrev pub openedSays : Outcome → Session → List ℕ
+abbrev pub openedSays : Ruling → Session → List ℕ
 openedSays o s = answerText (openedNumber o (s .buffers)) (o .place)
 
-abbrev pub openedSession : Outcome → Session → Session
+abbrev pub openedSession : Ruling → Session → Session
 openedSession o s =
     session (ifDone (openedNumber o (s .buffers)) (openedDays o (s .buffers)) (s .days)) (openedBuffers o (s .buffers))
 
@@ -44,14 +44,14 @@ says (Days profile weekday) line l s = openedSays (daysOffer profile weekday lin
 says (Change c) line l s = answerText (callNumber (held (s .days) (s .buffers)) c) 0
 says Statement line l s = accountText (held (s .days) (s .buffers))
 
-abbrev pub next : Command → List ℕ → Session → Session
-next Blank line s = s
-next Unknown line s = s
-next Weights line s = openedSession (weightsOffer line) s
-next (Days profile weekday) line s = openedSession (daysOffer profile weekday line) s
-next (Change c) line s = session (s .days) (laid (after (held (s .days) (s .buffers)) c) (s .buffers))
-next Statement line s = s
+abbrev pub nextSession : Command → List ℕ → Session → Session
+nextSession Blank line s = s
+nextSession Unknown line s = s
+nextSession Weights line s = openedSession (weightsOffer line) s
+nextSession (Days profile weekday) line s = openedSession (daysOffer profile weekday line) s
+nextSession (Change c) line s = session (s .days) (laid (after (held (s .days) (s .buffers)) c) (s .buffers))
+nextSession Statement line s = s
 
 pub record StepMet (line : List ℕ) (l : ℕ) (before : Session) (out : List ℕ) (said : Said) (then : Account) (written : List ℕ) : Type 0 where
-  pub answers : LaidOut 0 (says (commandOf line) line l before) out (said .length) written
-  pub leaves : session (said .days) then ≡ next (commandOf line) line before
+  pub prints : LaidOut 0 (says (commandOf line) line l before) out (said .length) written
+  pub leaves : session (said .days) then ≡ nextSession (commandOf line) line before

@@ -1,4 +1,4 @@
--- What a whole script prints: all its lines, whatever number of runs it takes.
+-- What a whole script prints (the console: docs/GUIDE.md): all its lines, whatever number of runs it takes.
 use Prim.Native.Nat.{ℕ, _+_, _≤_}
 use mathlib.Core.Path.{_≡_}
 use mathlib.Core.List.{List, [], _∷_, _++_}
@@ -40,6 +40,10 @@ Runs text at done s (r ∷ rs) =
 abbrev pub printed : List OneRun → List ℕ
 printed [] = []
 printed (r ∷ rs) = take (r .ran .length) (r .written) ++ printed rs
+
+-- every script has such runs, to its end (proofs/EveryScript, `every-script-runs`)
+abbrev pub EveryScriptRuns : Type 0
+EveryScriptRuns = (text : List ℕ) → length text ≤ scriptMost → (rs : List OneRun) × Runs text 0 0 fresh rs
 
 -- whatever the runs and the room that each was lent, the script's text is printed (proofs/Joined, `runs-join`)
 abbrev pub RunsJoin : Type 0

@@ -1,4 +1,4 @@
--- What lines of a script print, and a run of them: one call a line, for each call one answer, lines counted from 1.
+-- What lines of a script print, and a run of them (the console: docs/GUIDE.md): one call a line, for each call one answer, lines counted from 1.
 use Prim.Native.Nat.{ℕ, _+_, _-_, _≤_}
 use mathlib.Core.Path.{_≡_}
 use mathlib.Core.Bool.{Bool, cond, _&&_}
@@ -10,7 +10,7 @@ use Rattle.layout.specs.Text.{LaidOut}
 use Rattle.layout.specs.Accounts.{textMost}
 use Rattle.script.specs.Numbers.{most64}
 use Rattle.script.specs.Calls.{commandOf}
-use Rattle.session.specs.Lines.{Session, session, says, next}
+use Rattle.session.specs.Lines.{Session, session, says, nextSession}
 use Rattle.session.specs.declared.Said.{Said}
 use Rattle.session.specs.declared.Ran.{Ran}
 
@@ -28,11 +28,11 @@ lines (x ∷ s) = cond (eqb x 10) ([] ∷ lines s) (begun x (lines s))
 unfoldable pub transcript : List (List ℕ) → ℕ → Session → List ℕ
 transcript [] before s = []
 transcript (line ∷ rest) before s =
-    says (commandOf line) line (before + 1) s ++ transcript rest (before + 1) (next (commandOf line) line s)
+    says (commandOf line) line (before + 1) s ++ transcript rest (before + 1) (nextSession (commandOf line) line s)
 
 unfoldable pub sessionAfter : List (List ℕ) → Session → Session
 sessionAfter [] s = s
-sessionAfter (line ∷ rest) s = sessionAfter rest (next (commandOf line) line s)
+sessionAfter (line ∷ rest) s = sessionAfter rest (nextSession (commandOf line) line s)
 
 -- no answer is longer than this
 abbrev pub longest : ℕ
@@ -40,9 +40,9 @@ longest = textMost
 
 -- a line's answer laid out in a lent slice from an offset on, all of it
 pub record GatheredMet (line : List ℕ) (l : ℕ) (before : Session) (out : List ℕ) (filled : ℕ) (said : Said) (then : Account) (written : List ℕ) : Type 0 where
-  pub answers : LaidOut filled (says (commandOf line) line l before) out (filled + said .length) written
+  pub prints : LaidOut filled (says (commandOf line) line l before) out (filled + said .length) written
   pub within : filled + said .length ≤ length written
-  pub leaves : session (said .days) then ≡ next (commandOf line) line before
+  pub leaves : session (said .days) then ≡ nextSession (commandOf line) line before
 
 -- one more line is run while its number has 64 bits and the room left can hold any answer
 abbrev pub oneMore : ℕ → ℕ → Bool
@@ -53,7 +53,7 @@ unfoldable pub runnable : List (List ℕ) → ℕ → Session → ℕ → List (
 runnable [] done s room = []
 runnable (line ∷ rest) done s room =
     cond (oneMore done room)
-    (line ∷ runnable rest (done + 1) (next (commandOf line) line s) (room - length (says (commandOf line) line (done + 1) s)))
+    (line ∷ runnable rest (done + 1) (nextSession (commandOf line) line s) (room - length (says (commandOf line) line (done + 1) s)))
     []
 
 -- the lines that a run passes: of those from an offset on, with a slice for their answers
@@ -68,8 +68,8 @@ offsetAfter at (line ∷ rest) = offsetAfter (at + length line + 1) rest
 -- a script run from an offset on, after so many lines: the answers of the lines passed stand at the start of the lent slice, and the offset,
 -- the lines done, the days and the buffers are those after them
 pub record RunMet (text : List ℕ) (at done : ℕ) (before : Session) (out : List ℕ) (ran : Ran) (then : Account) (written kept : List ℕ) : Type 0 where
-  pub answers : LaidOut 0 (transcript (passed text at done before out) done before) out (ran .length) written
+  pub prints : LaidOut 0 (transcript (passed text at done before out) done before) out (ran .length) written
   pub leaves : session (ran .days) then ≡ sessionAfter (passed text at done before out) before
-  pub counts : ran .done ≡ done + length (passed text at done before out)
+  pub lines-done : ran .done ≡ done + length (passed text at done before out)
   pub next-is : ran .at ≡ offsetAfter at (passed text at done before out)
   pub stays : kept ≡ text

@@ -1,4 +1,4 @@
-// One line of a script, its answer gathered after others in a lent slice.
+// One line of a script, its answer gathered after others in a lent slice (the console: docs/GUIDE.md).
 use crate::Said;
 use crate::step;
 ghost use Prim.Native.Nat.{_+_, _-_, _≤_};

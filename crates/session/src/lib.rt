@@ -1,4 +1,4 @@
-// A session of the console: each line of a script, done on buffers that hold an account.
+// A session of the console (the console: docs/GUIDE.md): each line of a script, done on buffers that hold an account.
 mod buffers;
 mod gathered;
 mod open;

@@ -1,4 +1,4 @@
-// Opening an account over weights, and over the weights of means.
+// Opening an account over weights, and over the weights of means (the console: docs/GUIDE.md).
 use crate::Opened;
 use crate::buffers::boundaries;
 use account::number_of;
@@ -10,7 +10,7 @@ ghost use Prim.Native.Nat.{_≤_, _-_};
 ghost use lib.ListN.{length, take, drop, replicate};
 ghost use Rattle.profile.specs.Limits.{spanMost};
 ghost use Rattle.account.specs.Account.{account};
-ghost use Rattle.weights.specs.Weights.{outcome, number, place};
+ghost use Rattle.weights.specs.Weights.{ruling, number, place};
 ghost use Rattle.session.specs.Calls.{offered, OpenedMet};
 
 // An account over the first weights of a list, opened in the buffers.
@@ -52,7 +52,7 @@ pub(crate) fn over_means(
     counts: &mut [u64],
 ) -> Opened
     requires { ⌜ spanMost ≤ length (now fresh) ⌝ }
-    ensures { λ r. ⌜ OpenedMet (outcome profile weekday (now (means .entry)) (replicate (length (now (means .entry)) - 3) 0)) (account (now (weights .entry)) (now (marks .entry)) (now (counts .entry))) r (account (now (weights .exit)) (now (marks .exit)) (now (counts .exit))) ⌝ }
+    ensures { λ r. ⌜ OpenedMet (ruling profile weekday (now (means .entry)) (replicate (length (now (means .entry)) - 3) 0)) (account (now (weights .entry)) (now (marks .entry)) (now (counts .entry))) r (account (now (weights .exit)) (now (marks .exit)) (now (counts .exit))) ⌝ }
 {
     if means.len() < 4 {
         return refused(3, 0);

@@ -48,7 +48,7 @@ long-fit n o l = rw (eq-eqb _ _ (l .from), eq-eqb _ _ (l .to), eq-eqb _ _ (l .wh
 
 module _ (a : Account) (o : Outputs) where
   met-unfit : (unfit a || unfitOutputs (days a) o) ≡ true → StatementMet a o Unfit a o
-  met-unfit h = record { answers = rw h; counts = rw h; stays = refl; writes = rw h }
+  met-unfit h = record { answers = rw h; gives = rw h; stays = refl; writes = rw h }
 
   pub met-from : (length (o .from) ≡ days a → ⊥) → StatementMet a o Unfit a o
   met-from h = met-unfit (rw (ne-eqb _ _ h) (or-true (unfit a)))
@@ -66,25 +66,25 @@ module _ (a : Account) (o : Outputs) where
   met-unsound r l is not-three not-zero =
       let b = unsound-by (unfit a) (sound a) (λ h. not-three (is ∙ h)) (λ h. not-zero (is ∙ h)) in
       let f = long-fit (days a) o l in
-      record { answers = rw (b .0, f, b .1); counts = rw (b .0, f, b .1); stays = refl; writes = rw (b .0, f, b .1) }
+      record { answers = rw (b .0, f, b .1); gives = rw (b .0, f, b .1); stays = refl; writes = rw (b .0, f, b .1) }
 
   pub met-few : Long (days a) o → Checked a → howMany (shown a .readings .at) (suc (days a)) < 2 → (o′ : Outputs) → o′ ≡ zeroed o → StatementMet a o TooFewReadings a o′
   met-few l c few o′ clear =
       let f = long-fit (days a) o l in
       let less = lt-ltb _ _ few in
-      record { answers = rw (c .fits, f, c .good, less); counts = rw (c .fits, f, c .good, less); stays = refl; writes = rw (c .fits, f, c .good, less) clear }
+      record { answers = rw (c .fits, f, c .good, less); gives = rw (c .fits, f, c .good, less); stays = refl; writes = rw (c .fits, f, c .good, less) clear }
 
   pub met-parts : Long (days a) o → Checked a → 2 ≤ howMany (shown a .readings .at) (suc (days a)) → (o′ : Outputs) (r : ℕ) → Filled a o′ r → StatementMet a o (Parts r) a o′
   met-parts l c some o′ r h =
       let f = long-fit (days a) o l in
       let more = le-ltb _ _ some in
-      record { answers = rw (c .fits, f, c .good, more); counts = rw (c .fits, f, c .good, more) (h .number); stays = refl; writes = rw (c .fits, f, c .good, more) (h .holds) }
+      record { answers = rw (c .fits, f, c .good, more); gives = rw (c .fits, f, c .good, more) (h .how-many); stays = refl; writes = rw (c .fits, f, c .good, more) (h .holds) }
 
   pub ready : Long (days a) o → Checked a → 2 ≤ howMany (shown a .readings .at) (suc (days a)) → (o′ : Outputs) → o′ ≡ zeroed o → Ready a o′
   ready l c some o′ clear =
       let zeros : (m : ℕ) → m ≡ days a → replicate {A = ℕ} m 0 ≡ replicate (days a - 0) 0 = λ m is. ap (λ (x : ℕ). replicate {A = ℕ} x 0) (is ∙ sym (sub-zero (days a))) in
       record {
         checked = c;
-        some = omega arith;
+        has-reading = omega arith;
         clear = clear ∙ outputs-same (zeros _ (l .from)) (zeros _ (l .to)) (zeros _ (l .wh));
       }

@@ -36,7 +36,7 @@ pub record Reached (a : Account) (q : ℕ) (o : Outputs) (d : Progress) : Type 0
 -- where there is a reading, the search from boundary 0 finds one
 pub first-there : (a : Account) (o : Outputs) → Ready a o → (p : ℕ) → NextReading (a .marks) 0 p → p ≤ days a
 first-there a o h p is =
-    let some = found (shown a .readings .at) (suc (days a)) (h .some) in
+    let some = found (shown a .readings .at) (suc (days a)) (h .has-reading) in
     let late : days a < p → ⊥ = λ past. clash (some .2) (is .none-before (some .0) (omega arith) (omega (arith, some .1))) in
     omega arith
 
@@ -88,4 +88,4 @@ module _ {a : Account} {q : ℕ} {o : Outputs} {d : Progress} (h : Reached a q o
   reached-last past =
       let last-one : IsLast (shown a .readings .at) (suc (days a)) (d .start) = record { below = omega (arith, h .within); holds = h .here; none-after = λ j low high. h .next .none-before j (omega arith) (omega arith) } in
       let all = written-last (a .weights) (shown a) (d .start) o d (h .so-far) (last-is (shown a .readings .at) last-one) (h .within) in
-      record { holds = all .0; number = all .1 }
+      record { holds = all .0; how-many = all .1 }

@@ -17,12 +17,12 @@ use Rattle.statement.specs.Parts.{Outputs, marked}
 use Rattle.statement.specs.Shares.{Adjacent}
 use Rattle.statement.specs.Progress.{Checked, Interval, Written, Splittable, Summable, Addable, withPart, nextPart}
 use Rattle.statement.proofs.Order.{read, adjacent-rise}
-use Rattle.statement.specs.Facts.{Fair}
+use Rattle.statement.specs.Facts.{Valid}
 use Rattle.statement.proofs.Parts.{Ends}
 use Rattle.statement.proofs.Sums.{sum-splits, sum-positive}
 use Rattle.statement.proofs.Has.{has-reading, has-between, has-mono}
 use Rattle.statement.proofs.CodeSums.{sum-next, sum-most}
-use Rattle.statement.proofs.CodeSound.{checked-fit, checked-sound, checked-fair, mark-counts, energy-between}
+use Rattle.statement.proofs.CodeSound.{checked-fit, checked-sound, checked-valid, mark-counts, energy-between}
 use Rattle.statement.proofs.CodeWritten.{written-same, written-none, written-part, written-addable}
 
 -- the parts that end below boundary k, from p to q, are written; low is what p has, e the energy and z the weights from p to q,
@@ -57,7 +57,7 @@ room a p q c between inside =
       marks = omega arith;
       counts = omega arith;
       span = omega arith;
-      rises = adjacent-rise (a .weights) (shown a .readings) (checked-fair a c) p q between inside;
+      rises = adjacent-rise (a .weights) (shown a .readings) (checked-valid a c) p q between inside;
     }
 
 -- the next part starts at the reading p, which has what its count says
@@ -87,23 +87,23 @@ interval-start a q o d z zk h sum first =
     }
 
 module _ {a : Account} {p q low e z k zk : ℕ} {o : Outputs} {d : Progress} (h : Within a p q low e z k zk o d) where
-  fair : Fair (a .weights) (shown a .readings)
-  fair = checked-fair a (h .checked)
+  valid : Valid (a .weights) (shown a .readings)
+  valid = checked-valid a (h .checked)
 
   pub within-room : Room a p q
   within-room = room a p q (h .checked) (h .adjacent) (h .inside)
 
   pub within-small : zk ≤ spanMost * weightMost
   within-small =
-      omega (arith, h .share, sum-most (a .weights) (fair .weights) p k (omega (arith, h .upto, h .inside)), mul-le-mul-right {m = k} {n = spanMost} weightMost (omega (arith, h .upto, within-room .span)))
+      omega (arith, h .share, sum-most (a .weights) (checked-sound a (h .checked) .weights) p k (omega (arith, h .upto, h .inside)), mul-le-mul-right {m = k} {n = spanMost} weightMost (omega (arith, h .upto, within-room .span)))
 
   pub within-splittable : shown a .readings .count q < 2 ^ 64 → Splittable low e zk z
   within-splittable fits =
-      let all = energy-between (days a) (shown a .readings) (fair .rises) p q (h .adjacent .ordered) (h .inside) (h .adjacent .at-p) (h .adjacent .at-q) in
+      let all = energy-between (days a) (shown a .readings) (valid .rises) p q (h .adjacent .ordered) (h .inside) (h .adjacent .at-p) (h .adjacent .at-q) in
       record {
-        some = rw (h .sum) (sum-positive (a .weights) (fair .weights) p q (h .adjacent .ordered) (h .inside));
+        positive = rw (h .sum) (sum-positive (a .weights) (valid .weights) p q (h .adjacent .ordered) (h .inside));
         share = rw (h .sum, h .share) (omega (arith, sum-splits (a .weights) p k q (omega (arith, h .after)) (h .upto)));
-        sum = omega (arith, h .sum, sum-most (a .weights) (fair .weights) p q (h .inside), mul-le-mul-right weightMost (h .inside), mul-le-mul-right weightMost (checked-fit a (h .checked) .most));
+        sum = omega (arith, h .sum, sum-most (a .weights) (checked-sound a (h .checked) .weights) p q (h .inside), mul-le-mul-right weightMost (h .inside), mul-le-mul-right weightMost (checked-fit a (h .checked) .most));
         energy = omega (arith, all, checked-sound a (h .checked) .energy, h .energy, h .starts);
         room = omega (arith, within-room .rises, h .starts, h .energy);
       }
@@ -112,7 +112,7 @@ module _ {a : Account} {p q low e z k zk : ℕ} {o : Outputs} {d : Progress} (h 
   value-is : k < q → (v : ℕ) → v ≡ low + shareOf e zk z → v ≡ has (a .weights) (shown a .readings) k
   unfolding between
   value-is less v is =
-      is ∙ rw (h .energy, h .starts, h .sum, h .share) (sym (has-between (a .weights) (shown a .readings) fair p q (h .adjacent) (h .inside) k (omega (arith, h .after)) (h .upto)))
+      is ∙ rw (h .energy, h .starts, h .sum, h .share) (sym (has-between (a .weights) (shown a .readings) valid p q (h .adjacent) (h .inside) k (omega (arith, h .after)) (h .upto)))
 
   -- the next part starts at p or later
   started : IsLast (marked (shown a)) k (last (marked (shown a)) k)
@@ -121,7 +121,7 @@ module _ {a : Account} {p q low e z k zk : ℕ} {o : Outputs} {d : Progress} (h 
   rises : d .value ≤ has (a .weights) (shown a .readings) k
   rises =
       rw (h .written .value)
-      (has-mono (a .weights) (shown a .readings) fair p q (h .adjacent) (h .inside) (last (marked (shown a)) k) k
+      (has-mono (a .weights) (shown a .readings) valid p q (h .adjacent) (h .inside) (last (marked (shown a)) k) k
       (last-most (marked (shown a)) started (h .after) (rw (h .adjacent .at-p))) (omega (arith, started .below)) (h .upto))
 
   addable : (v : ℕ) → v ≡ has (a .weights) (shown a .readings) k → Addable o d k v

@@ -1,4 +1,4 @@
--- What a checked account gives (Account and its calls, "Sound"): fair weights and readings, and the energy between two readings.
+-- What a checked account gives (Account and its calls, "Sound"): valid weights and readings, and the energy between two readings.
 -- Assumes nothing.
 use mathlib.Core.Path.{_≡_, refl}
 use mathlib.Core.Bool.{true, _||_}
@@ -11,8 +11,8 @@ use Rattle.account.proofs.Below.{first-found, last-found, first-least, last-mos
 use Rattle.account.proofs.Pairs.{pairs}
 use Rattle.account.proofs.Sound.{Sound, fit, sound-parts}
 use Rattle.statement.specs.Progress.{Checked}
-use Rattle.statement.proofs.Order.{fair-of-sound}
-use Rattle.statement.specs.Facts.{Fair}
+use Rattle.statement.proofs.Order.{valid-of-sound}
+use Rattle.statement.specs.Facts.{Valid}
 
 module _ (a : Account) (c : Checked a) where
   pub checked-fit : Fit a
@@ -21,8 +21,8 @@ module _ (a : Account) (c : Checked a) where
   pub checked-sound : Sound a
   checked-sound = sound-parts a (c .good)
 
-  pub checked-fair : Fair (a .weights) (shown a .readings)
-  checked-fair = fair-of-sound a (c .good)
+  pub checked-valid : Valid (a .weights) (shown a .readings)
+  checked-valid = valid-of-sound a (c .good)
 
 -- a mark from 1 to 3 is a reading or a cut
 pub mark-counts : (m : ℕ) → m ≤ 3 → (m ≡ 0 → ⊥) → (marksReading m || marksCut m) ≡ true

@@ -14,7 +14,7 @@ use Rattle.account.proofs.Below.{first-least, last-found, last-most}
 use Rattle.statement.specs.Split.{weightSum, shareOf, between, earlier, later}
 use Rattle.statement.specs.Parts.{Outputs, marked, parts, statementOf}
 use Rattle.statement.specs.Shares.{Adjacent, Shared, total, energy}
-use Rattle.statement.specs.Facts.{Fair, SumsUp, SharesClose, SameEnergy}
+use Rattle.statement.specs.Facts.{Valid, SumsUp, SharesClose, SameEnergy}
 use Rattle.statement.proofs.Order.{read, some-read}
 use Rattle.statement.proofs.Has.{has-reading, has-between}
 use Rattle.statement.proofs.Near.{near}
@@ -32,7 +32,7 @@ total-energy o a b (suc m) inside =
 -- the parts add up to last less first
 pub sums-up : SumsUp
 unfolding lastLessFirst
-sums-up w s fair two =
+sums-up w s valid two =
     let r = s .readings in
     let n = length w in
     let is = some-read n r two in
@@ -48,14 +48,14 @@ sums-up w s fair two =
       arith,
       total-energy (statementOf w s) f l (length (parts w s)) inside,
       energy-written f l n (parts w s),
-      telescopes w s is fair f l mark-f mark-l (omega arith) f≤l (omega arith),
+      telescopes w s is valid f l mark-f mark-l (omega arith) f≤l (omega arith),
       has-reading w r f (is .first .holds),
       has-reading w r l (is .last .holds),
     )
 
 -- each part is less than 1 Wh from its exact share
 pub shared : SharesClose
-shared w s fair two =
+shared w s valid two =
     each-written w s (Shared w (s .readings)) λ k ends.
     let l = lies w s (some-read (length w) (s .readings) two) k ends in
     let e = l .encloses in
@@ -65,10 +65,10 @@ shared w s fair two =
       adjacent = e .adjacent;
       starts = l .starts;
       ends = e .upto;
-      near = near w (s .readings) fair _ _ (e .adjacent) (e .inside) _ k (l .starts) (omega arith) (e .upto);
+      near = near w (s .readings) valid _ _ (e .adjacent) (e .inside) _ k (l .starts) (omega arith) (e .upto);
     }
 
-module _ (w : List ℕ) (s : Stands) (fair : Fair w (s .readings)) where
+module _ (w : List ℕ) (s : Stands) (valid : Valid w (s .readings)) where
   -- the energy between a reading and a marked boundary is the boundary's share of what the next reading has more
   pub energy-is : (p q b : ℕ) → Adjacent (s .readings .at) p q → q ≤ length w → p ≤ b → b ≤ q → marked s b ≡ true →
       energy (statementOf w s) p b (length (parts w s)) ≡
@@ -83,11 +83,11 @@ module _ (w : List ℕ) (s : Stands) (fair : Fair w (s .readings)) where
       omega (
         arith,
         energy-written p b (length w) (parts w s),
-        telescopes w s is fair p b mark-p mark from low (omega arith),
+        telescopes w s is valid p b mark-p mark from low (omega arith),
         has-reading w r p (a .at-p),
-        has-between w r fair p q a inside b low high,
+        has-between w r valid p q a inside b low high,
       )
 
 pub same-energy : SameEnergy
-same-energy w s t fair-s fair-t p q b adj-s adj-t same-p same-q inside low high mark-s mark-t =
-    rw (energy-is w s fair-s p q b adj-s inside low high mark-s, energy-is w t fair-t p q b adj-t inside low high mark-t, same-p, same-q)
+same-energy w s t valid-s fair-t p q b adj-s adj-t same-p same-q inside low high mark-s mark-t =
+    rw (energy-is w s valid-s p q b adj-s inside low high mark-s, energy-is w t fair-t p q b adj-t inside low high mark-t, same-p, same-q)

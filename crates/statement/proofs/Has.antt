@@ -12,8 +12,8 @@ use Rattle.rounding.proofs.Laws.{nearest-multiple, nearest-mono}
 use Rattle.account.specs.Stands.{Readings}
 use Rattle.statement.specs.Split.{weightSum, shareOf, between, has}
 use Rattle.statement.specs.Shares.{Adjacent}
-use Rattle.statement.specs.Facts.{Fair, EnclosedOnly}
-use Rattle.statement.proofs.Order.{Encloses, earlier-is, later-is, adjacent-rise}
+use Rattle.statement.specs.Facts.{Valid, HasRule, EnclosedOnly}
+use Rattle.statement.proofs.Order.{LiesBetween, earlier-is, later-is, adjacent-rise}
 use Rattle.statement.proofs.Sums.{sum-empty, sum-splits, sum-positive, sum-same}
 
 pub share-none : (e z : ℕ) → 0 < z → shareOf e 0 z ≡ 0
@@ -32,13 +32,25 @@ pub has-reading : (w : List ℕ) (r : Readings) (k : ℕ) → r .at k ≡ true �
 unfolding has
 has-reading w r k at = rw at
 
-module _ (w : List ℕ) (r : Readings) (fair : Fair w r) (p q : ℕ) (a : Adjacent (r .at) p q) (inside : q ≤ length w) where
+-- a boundary strictly between two adjacent readings
+strictly : (w : List ℕ) (r : Readings) (p q : ℕ) → Adjacent (r .at) p q → q ≤ length w → (k : ℕ) → p < k → k < q →
+    has w r k ≡ between w r p q k
+unfolding has
+strictly w r p q a inside k low high =
+    let e : LiesBetween (length w) r p q k = record { adjacent = a; after = low; upto = omega arith; inside = inside } in
+    rw (a .none-between k low high, earlier-is (length w) r p q k e, later-is (length w) r p q k e)
+
+pub has-rule : HasRule
+unfolding between shareOf
+has-rule = record { between = λ w r p q k a inside low high. strictly w r p q a inside k low high; reading = has-reading }
+
+module _ (w : List ℕ) (r : Readings) (valid : Valid w r) (p q : ℕ) (a : Adjacent (r .at) p q) (inside : q ≤ length w) where
   whole : 0 < weightSum w p q
-  whole = sum-positive w (fair .weights) p q (a .ordered) inside
+  whole = sum-positive w (valid .weights) p q (a .ordered) inside
 
   at-end : between w r p q q ≡ r .count q
   unfolding between
-  at-end = omega (arith, share-all (r .count q - r .count p) (weightSum w p q) whole, adjacent-rise w r fair p q a inside)
+  at-end = omega (arith, share-all (r .count q - r .count p) (weightSum w p q) whole, adjacent-rise w r valid p q a inside)
 
   at-start : between w r p q p ≡ r .count p
   unfolding between
@@ -47,18 +59,12 @@ module _ (w : List ℕ) (r : Readings) (fair : Fair w r) (p q : ℕ) (a : Adjace
       rw (sum-empty w p p (omega arith)) (share-none _ _ whole) in
       omega arith
 
-  strictly : (k : ℕ) → p < k → k < q → has w r k ≡ between w r p q k
-  unfolding has
-  strictly k low high =
-      let e : Encloses (length w) r p q k = record { adjacent = a; after = low; upto = omega arith; inside = inside } in
-      rw (a .none-between k low high, earlier-is (length w) r p q k e, later-is (length w) r p q k e)
-
   -- what a boundary has, from the reading at p to the reading at q
   pub has-between : (k : ℕ) → p ≤ k → k ≤ q → has w r k ≡ between w r p q k
   has-between k low high =
       ⊎-elim (λ start. rw (← start) (has-reading w r p (a .at-p) ∙ sym at-start))
       (λ after.
-      ⊎-elim (λ end. rw end (has-reading w r q (a .at-q) ∙ sym at-end)) (λ before. strictly k after before) (eq-or-lt-of-le high))
+      ⊎-elim (λ end. rw end (has-reading w r q (a .at-q) ∙ sym at-end)) (λ before. strictly w r p q a inside k after before) (eq-or-lt-of-le high))
       (eq-or-lt-of-le low)
 
   pub has-mono : (j k : ℕ) → p ≤ j → j ≤ k → k ≤ q → has w r j ≤ has w r k
@@ -70,10 +76,10 @@ module _ (w : List ℕ) (r : Readings) (fair : Fair w r) (p q : ℕ) (a : Adjace
 
 pub has-only : EnclosedOnly
 unfolding between
-has-only v w r s fair-r fair-s p q adj-r adj-s in-v in-w same-p same-q same k low high =
+has-only v w r s valid-r valid-s p q adj-r adj-s in-v in-w same-p same-q same k low high =
     rw (
-      has-between v r fair-r p q adj-r in-v k low high,
-      has-between w s fair-s p q adj-s in-w k low high,
+      has-between v r valid-r p q adj-r in-v k low high,
+      has-between w s valid-s p q adj-s in-w k low high,
       same-p,
       same-q,
       sum-same v w p q same,

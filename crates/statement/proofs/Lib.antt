@@ -1,3 +1,4 @@
+-- The laws that the proofs of crate statement share, and its theorems.
 pub mod Order
 pub mod Sums
 pub mod Has

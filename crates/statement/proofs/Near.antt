@@ -9,7 +9,7 @@ use Rattle.rounding.proofs.Laws.{nearest-is}
 use Rattle.account.specs.Stands.{Readings}
 use Rattle.statement.specs.Split.{weightSum, shareOf, between, has}
 use Rattle.statement.specs.Shares.{Adjacent, NearShare}
-use Rattle.statement.specs.Facts.{Fair}
+use Rattle.statement.specs.Facts.{Valid}
 use Rattle.statement.proofs.Sums.{sum-splits, sum-positive}
 use Rattle.statement.proofs.Has.{has-between, has-mono}
 
@@ -17,16 +17,16 @@ use Rattle.statement.proofs.Has.{has-between, has-mono}
 differ : (e x y z m d : ℕ) → IsNearest (e * x) z m → IsNearest (e * (x + y)) z (m + d) → (d * z < e * y + z) × (e * y < d * z + z)
 differ e x y z m d one other = (omega arith, omega arith)
 
-pub near : (w : List ℕ) (r : Readings) → Fair w r → (p q : ℕ) → Adjacent (r .at) p q → q ≤ length w →
+pub near : (w : List ℕ) (r : Readings) → Valid w r → (p q : ℕ) → Adjacent (r .at) p q → q ≤ length w →
     (f t : ℕ) → p ≤ f → f ≤ t → t ≤ q → NearShare w r p q f t (has w r t - has w r f)
 unfolding between shareOf
-near w r fair p q a inside f t low le high =
+near w r valid p q a inside f t low le high =
     let e : ℕ = r .count q - r .count p in
     let z : ℕ = weightSum w p q in
-    let pos : 0 < z = sum-positive w (fair .weights) p q (a .ordered) inside in
-    let at-f = has-between w r fair p q a inside f low (omega arith) in
-    let at-t = has-between w r fair p q a inside t (omega arith) high in
-    let rises = has-mono w r fair p q a inside f t low le high in
+    let pos : 0 < z = sum-positive w (valid .weights) p q (a .ordered) inside in
+    let at-f = has-between w r valid p q a inside f low (omega arith) in
+    let at-t = has-between w r valid p q a inside t (omega arith) high in
+    let rises = has-mono w r valid p q a inside f t low le high in
     let one = nearest-is (e * weightSum w p f) z pos in
     let other = nearest-is (e * weightSum w p t) z pos in
     let up : nearest (e * weightSum w p t) z ≡ nearest (e * weightSum w p f) z + (has w r t - has w r f) = omega arith in

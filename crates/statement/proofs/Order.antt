@@ -15,25 +15,26 @@ use Rattle.account.proofs.Pairs.{pairs}
 use Rattle.account.proofs.Sound.{sound-parts}
 use Rattle.statement.specs.Split.{earlier, later}
 use Rattle.statement.specs.Shares.{Adjacent}
-use Rattle.statement.specs.Facts.{Fair}
+use Rattle.statement.specs.Facts.{Valid}
+use Rattle.statement.proofs.Sums.{weight-positive}
 
-pub fair-of-sound : (a : Account) → sound a ≡ true → Fair (a .weights) (shown a .readings)
-fair-of-sound a h = let s = sound-parts a h in record { weights = s .weights; rises = s .order }
+pub valid-of-sound : (a : Account) → sound a ≡ true → Valid (a .weights) (shown a .readings)
+valid-of-sound a h = let s = sound-parts a h in record { weights = weight-positive (a .weights) (s .weights); rises = s .order }
 
 -- p and q are the adjacent readings with p < k ≤ q, in an account of n days
-pub record Encloses (n : ℕ) (r : Readings) (p q k : ℕ) : Type 0 where
+pub record LiesBetween (n : ℕ) (r : Readings) (p q k : ℕ) : Type 0 where
   pub adjacent : Adjacent (r .at) p q
   pub after : p < k
   pub upto : k ≤ q
   pub inside : q ≤ n
 
 module _ (n : ℕ) (r : Readings) where
-  pub earlier-is : (p q k : ℕ) → Encloses n r p q k → earlier r k ≡ p
+  pub earlier-is : (p q k : ℕ) → LiesBetween n r p q k → earlier r k ≡ p
   earlier-is p q k e =
       last-is (r .at)
       (record { below = e .after; holds = e .adjacent .at-p; none-after = λ j lo hi. e .adjacent .none-between j lo (omega arith) })
 
-  pub later-is : (p q k : ℕ) → Encloses n r p q k → later n r k ≡ q
+  pub later-is : (p q k : ℕ) → LiesBetween n r p q k → later n r k ≡ q
   later-is p q k e =
       first-is (λ j. leb k j && r .at j)
       (record {
@@ -46,7 +47,7 @@ module _ (n : ℕ) (r : Readings) where
       })
 
   -- a boundary after one reading and not after another is enclosed by its earlier and its later reading
-  pub enclosed : (f l k : ℕ) → r .at f ≡ true → r .at l ≡ true → f < k → k ≤ l → l ≤ n → Encloses n r (earlier r k) (later n r k) k
+  pub enclosed : (f l k : ℕ) → r .at f ≡ true → r .at l ≡ true → f < k → k ≤ l → l ≤ n → LiesBetween n r (earlier r k) (later n r k) k
   enclosed f l k at-f at-l after upto inside =
       let p = last-found (r .at) k f after at-f in
       let test : ℕ → Bool = λ j. leb k j && r .at j in
@@ -84,8 +85,8 @@ some-read n r two =
     let k = found (r .at) (suc n) (omega (arith, ltb-false (howMany (r .at) (suc n)) 2 two)) in
     read n r (k .0) (omega (arith, k .1)) (k .2)
 
-module _ (w : List ℕ) (r : Readings) (fair : Fair w r) where
+module _ (w : List ℕ) (r : Readings) (valid : Valid w r) where
   pub adjacent-rise : (p q : ℕ) → Adjacent (r .at) p q → q ≤ length w → r .count p ≤ r .count q
   adjacent-rise p q a h =
       let n = length w in
-      pairs r (suc n) (fair .rises) (suc n) (omega arith) p q (omega arith) (omega arith) (a .at-p) (a .at-q)
+      pairs r (suc n) (valid .rises) (suc n) (omega arith) p q (omega arith) (omega arith) (a .at-p) (a .at-q)

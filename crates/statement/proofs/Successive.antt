@@ -13,7 +13,7 @@ use Rattle.account.specs.Stands.{Stands, firstReading, lastReading}
 use Rattle.account.proofs.Below.{first-least, last-found, last-most, last-here, last-below}
 use Rattle.statement.specs.Parts.{Part, marked, endsPart, partTo, partsBelow, parts}
 use Rattle.statement.specs.Shares.{Adjacent}
-use Rattle.statement.specs.Facts.{bounds, PartsSuccessive}
+use Rattle.statement.specs.Facts.{boundsPart, PartsSuccessive}
 use Rattle.statement.proofs.Order.{Read, some-read}
 use Rattle.statement.proofs.Parts.{Ends, is-end, below-part, below-none, none-until, none-more, noPart, written-at, each-written}
 
@@ -97,27 +97,27 @@ module _ (w : List ℕ) (s : Stands) (read : Read (length w) (s .readings)) wher
       rw (none-more w s l refl (omega (arith, read .last .below))) (rw (last-here (marked s) refl mark-l) at (runs (suc l) (omega (arith, f≤l)) (omega arith)))
 
   -- one more marked boundary than parts
-  counted : (m : ℕ) → suc f ≤ m → suc (length (partsBelow w s m)) ≡ howMany (bounds n s) m
+  counted : (m : ℕ) → suc f ≤ m → suc (length (partsBelow w s m)) ≡ howMany (boundsPart n s) m
   unfolding howMany
-  counted = le-ind (λ m. suc (length (partsBelow w s m)) ≡ howMany (bounds n s) m) start next
+  counted = le-ind (λ m. suc (length (partsBelow w s m)) ≡ howMany (boundsPart n s) m) start next
     where
-      start : suc (length (partsBelow w s (suc f))) ≡ howMany (bounds n s) (suc f)
+      start : suc (length (partsBelow w s (suc f))) ≡ howMany (boundsPart n s) (suc f)
       start =
           rw (none-until w s (suc f) (omega arith), mark-f, le-leb f f (omega arith), le-leb f l f≤l)
-          (omega (arith, many-none (bounds n s) f (λ k h. simp (lt-leb f k h, and-false))))
+          (omega (arith, many-none (boundsPart n s) f (λ k h. simp (lt-leb f k h, and-false))))
 
-      next : (m : ℕ) → suc f ≤ m → suc (length (partsBelow w s m)) ≡ howMany (bounds n s) m →
-          suc (length (partsBelow w s (suc m))) ≡ howMany (bounds n s) (suc m)
-      next m lo rest = go (bounds n s m) refl
+      next : (m : ℕ) → suc f ≤ m → suc (length (partsBelow w s m)) ≡ howMany (boundsPart n s) m →
+          suc (length (partsBelow w s (suc m))) ≡ howMany (boundsPart n s) (suc m)
+      next m lo rest = go (boundsPart n s m) refl
         where
-          same : endsPart w s m ≡ bounds n s m
+          same : endsPart w s m ≡ boundsPart n s m
           same = rw (lt-ltb f m lo, le-leb f m (omega arith))
 
-          go : (b : Bool) → bounds n s m ≡ b → suc (length (partsBelow w s (suc m))) ≡ howMany (bounds n s) (suc m)
+          go : (b : Bool) → boundsPart n s m ≡ b → suc (length (partsBelow w s (suc m))) ≡ howMany (boundsPart n s) (suc m)
           go true e = rw (below-part w s m (same ∙ e), length-append (partsBelow w s m), e) (omega arith)
           go false e = rw (below-none w s m (same ∙ e), e) (omega arith)
 
-  bounds-at : (k : ℕ) → k < suc n → s .readings .at k ≡ true → bounds n s k ≡ true
+  bounds-at : (k : ℕ) → k < suc n → s .readings .at k ≡ true → boundsPart n s k ≡ true
   bounds-at k lt at =
       rw (at, le-leb f k (first-least (s .readings .at) (read .first) at), le-leb k l (last-most (s .readings .at) (read .last) lt at))
 
@@ -134,13 +134,13 @@ successive w s two =
     let run = runs-all w s is in
     let number = counted w s is (suc n) (omega (arith, is .first .below)) in
     let some : 0 < length ps =
-    omega (arith, ltb-false (howMany (s .readings .at) (suc n)) 2 two, many-more (s .readings .at) (bounds n s) (suc n) (bounds-at w s is)) in
+    omega (arith, ltb-false (howMany (s .readings .at) (suc n)) 2 two, many-more (s .readings .at) (boundsPart n s) (suc n) (bounds-at w s is)) in
     record {
-      some = some;
+      not-empty = some;
       starts = written-at (λ x. x .from) n ps 0 some ∙ runs-first _ _ ps run some;
       ends = written-at (λ x. x .to) n ps (length ps - 1) (omega arith) ∙ runs-last _ _ ps run (length ps - 1) (omega arith);
       joined =
           λ i h. written-at (λ x. x .from) n ps (suc i) h ∙ runs-next _ _ ps run i h ∙ sym (written-at (λ x. x .to) n ps i (omega arith));
       each = each-written w s (λ from to wh. Adjacent (marked s) from to) (each-adjacent w s is);
-      number = number;
+      how-many = number;
     }

@@ -13,7 +13,7 @@ use Rattle.account.specs.Account.{goodWeight, goodWeights}
 use Rattle.account.proofs.Below.{both, every-at}
 use Rattle.statement.specs.Split.{weightSum}
 
-weight-positive : (w : List ℕ) → goodWeights w ≡ true → (d : ℕ) → d < length w → 0 < getD w d 0
+pub weight-positive : (w : List ℕ) → goodWeights w ≡ true → (d : ℕ) → d < length w → 0 < getD w d 0
 unfolding goodWeights
 weight-positive w good d h =
     let b = both _ _ (every-at (λ j. goodWeight (getD w j 0)) (length w) good d h) in
@@ -37,9 +37,9 @@ module _ (w : List ℕ) where
       (λ lt. omega (arith, sum-splits p k d low (omega arith), sum-suc p d (omega arith), sum-suc k d (omega arith)))
       (eq-or-lt-of-le high)
 
-  pub sum-positive : goodWeights w ≡ true → (p q : ℕ) → p < q → q ≤ length w → 0 < weightSum w p q
-  sum-positive good p zero h fits = omega arith
-  sum-positive good p (suc d) h fits = omega (arith, sum-suc p d (omega arith), weight-positive w good d fits)
+  pub sum-positive : ((d : ℕ) → d < length w → 0 < getD w d 0) → (p q : ℕ) → p < q → q ≤ length w → 0 < weightSum w p q
+  sum-positive positive p zero h fits = omega arith
+  sum-positive positive p (suc d) h fits = omega (arith, sum-suc p d (omega arith), positive d fits)
 
 pub sum-same : (v w : List ℕ) (p q : ℕ) → ((d : ℕ) → p ≤ d → d < q → getD v d 0 ≡ getD w d 0) → weightSum v p q ≡ weightSum w p q
 sum-same v w p zero same = omega (arith, sum-empty v p zero (omega arith), sum-empty w p zero (omega arith))

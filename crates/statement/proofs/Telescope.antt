@@ -12,8 +12,8 @@ use Rattle.account.specs.Stands.{Stands, firstReading, lastReading}
 use Rattle.account.proofs.Below.{clash, last-found, last-most}
 use Rattle.statement.specs.Split.{earlier, later, has}
 use Rattle.statement.specs.Parts.{marked, partTo, partsBelow, parts}
-use Rattle.statement.specs.Facts.{Fair}
-use Rattle.statement.proofs.Order.{Read, Encloses, enclosed}
+use Rattle.statement.specs.Facts.{Valid}
+use Rattle.statement.proofs.Order.{Read, LiesBetween, enclosed}
 use Rattle.statement.proofs.Has.{has-mono}
 use Rattle.statement.proofs.Parts.{Ends, energyOf, counts, not-before, not-after, energy-more, energy-same}
 
@@ -24,7 +24,7 @@ Adds w s a b m = energyOf a b (partsBelow w s m) + has w (s .readings) a ≡ has
 module _ (w : List ℕ) (s : Stands) (read : Read (length w) (s .readings)) where
   -- the part that ends at k lies between the two readings that enclose k
   pub record Lies (k : ℕ) : Type 0 where
-    pub encloses : Encloses (length w) (s .readings) (earlier (s .readings) k) (later (length w) (s .readings) k) k
+    pub encloses : LiesBetween (length w) (s .readings) (earlier (s .readings) k) (later (length w) (s .readings) k) k
     pub starts : earlier (s .readings) k ≤ last (marked s) k
     pub ahead : last (marked s) k < k
 
@@ -35,12 +35,12 @@ module _ (w : List ℕ) (s : Stands) (read : Read (length w) (s .readings)) wher
       let l = last-found (marked s) k (earlier (s .readings) k) (e .after) mark in
       record { encloses = e; starts = last-most (marked s) l (e .after) mark; ahead = l .below }
 
-  module _ (fair : Fair w (s .readings)) where
+  module _ (valid : Valid w (s .readings)) where
     pub rises : (k : ℕ) → Ends w s k → has w (s .readings) (last (marked s) k) ≤ has w (s .readings) k
     rises k ends =
         let l = lies k ends in
         let e = l .encloses in
-        has-mono w (s .readings) fair _ _ (e .adjacent) (e .inside) _ k (l .starts) (omega arith) (e .upto)
+        has-mono w (s .readings) valid _ _ (e .adjacent) (e .inside) _ k (l .starts) (omega arith) (e .upto)
 
     module _ (a b : ℕ) (mark-a : marked s a ≡ true) (mark-b : marked s b ≡ true) (low : firstReading (length w) (s .readings) ≤ a)
         (le : a ≤ b) (high : b ≤ lastReading (length w) (s .readings)) where

@@ -32,13 +32,13 @@ unfitOutputs n o = not (eqb (length (o .from)) n) || not (eqb (length (o .to)) n
 -- 11: "fewer than two readings", over what stands
 abbrev pub statementRows : ℕ → Stands → ℕ
 statementRows n s =
-    row (ltb (howMany (s .readings .at) (suc n)) 2) 11
+    row (ltb (howMany (s .readings .at) (suc n)) 2) 11  -- fewer than two readings
     0
 
 abbrev pub statementNumber : Account → Outputs → ℕ
 statementNumber a o =
-    row (unfit a || unfitOutputs (days a) o) 3
-    (row (not (sound a)) 5
+    row (unfit a || unfitOutputs (days a) o) 3  -- n outside 1 to 1,096, or a lent length unfit
+    (row (not (sound a)) 5  -- account unsound
     (statementRows (days a) (shown a)))
 
 abbrev pub zeroed : Outputs → Outputs
@@ -50,6 +50,6 @@ outputsAfter answered done before = ifDone answered done (cond (eqb answered 11)
 
 pub record StatementMet (before : Account) (lent : Outputs) (answer : StatementAnswer) (after : Account) (out : Outputs) : Type 0 where
   pub answers : number answer ≡ statementNumber before lent
-  pub counts : partCount answer ≡ ifDone (statementNumber before lent) (length (parts (before .weights) (shown before))) 0
+  pub gives : partCount answer ≡ ifDone (statementNumber before lent) (length (parts (before .weights) (shown before))) 0
   pub stays : after ≡ before
   pub writes : out ≡ outputsAfter (statementNumber before lent) (statementOf (before .weights) (shown before)) lent

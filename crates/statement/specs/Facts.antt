@@ -1,43 +1,50 @@
 -- The rule's own facts (Account and its calls, "Statement"; Buyer's note: "the closeness of shares [is] proved for the rules themselves,
--- whatever profile or n"). For any n, any good weights and any readings that never fall; proofs/Has.antt, proofs/Successive.antt and
+-- whatever profile or n"). For any n, any weights above 0 and any readings that never fall; proofs/Has.antt, proofs/Successive.antt and
 -- proofs/Facts.antt prove them.
-use Prim.Native.Nat.{ℕ, suc, _-_, _≤_, _<_}
+use Prim.Native.Nat.{ℕ, suc, _+_, _-_, _*_, _≤_, _<_}
 use mathlib.Core.Path.{_≡_}
 use mathlib.Core.Bool.{Bool, true, false, _&&_}
 use mathlib.Core.List.{List}
 use lib.Dec.{leb, ltb}
 use lib.ListN.{length, getD}
+use Rattle.rounding.specs.Nearest.{nearest}
 use Rattle.account.specs.Below.{howMany}
 use Rattle.account.specs.Stands.{Stands, Readings, neverFalling, firstReading, lastReading, lastLessFirst}
-use Rattle.account.specs.Account.{goodWeights}
-use Rattle.statement.specs.Split.{has}
+use Rattle.statement.specs.Split.{weightSum, has}
 use Rattle.statement.specs.Parts.{Outputs, marked, parts, statementOf}
 use Rattle.statement.specs.Shares.{Adjacent, Shared, total, energy}
 
 -- all that the facts ask of the weights and of the readings that stand
-pub record Fair (w : List ℕ) (r : Readings) : Type 0 where
-  pub weights : goodWeights w ≡ true
+pub record Valid (w : List ℕ) (r : Readings) : Type 0 where
+  pub weights : (d : ℕ) → d < length w → 0 < getD w d 0
   pub rises : neverFalling r (suc (length w)) ≡ true
 
 -- fewer than two readings is not the case
 abbrev pub TwoReadings : List ℕ → Stands → Type 0
 TwoReadings w s = ltb (howMany (s .readings .at) (suc (length w))) 2 ≡ false
 
+-- "Between adjacent readings at p and q with counts difference E, weight sum Z, a boundary k between them has count(p) + nearest(E × Zk / Z)";
+-- "A reading's boundary has its count." (proofs/Has, `has-rule`)
+pub record HasRule : Type 0 where
+  pub between : (w : List ℕ) (r : Readings) (p q k : ℕ) → Adjacent (r .at) p q → q ≤ length w → p < k → k < q →
+      has w r k ≡ r .count p + nearest ((r .count q - r .count p) * weightSum w p k) (weightSum w p q)
+  pub reading : (w : List ℕ) (r : Readings) (k : ℕ) → r .at k ≡ true → has w r k ≡ r .count k
+
 -- What a boundary has depends only on its two enclosing readings, their counts and the weights between. (proofs/Has, `has-only`)
 abbrev pub EnclosedOnly : Type 0
 EnclosedOnly =
-    (v w : List ℕ) (r s : Readings) → Fair v r → Fair w s → (p q : ℕ) → Adjacent (r .at) p q → Adjacent (s .at) p q →
+    (v w : List ℕ) (r s : Readings) → Valid v r → Valid w s → (p q : ℕ) → Adjacent (r .at) p q → Adjacent (s .at) p q →
     q ≤ length v → q ≤ length w → r .count p ≡ s .count p → r .count q ≡ s .count q →
     ((d : ℕ) → p ≤ d → d < q → getD v d 0 ≡ getD w d 0) → (k : ℕ) → p ≤ k → k ≤ q → has v r k ≡ has w s k
 
 -- a boundary at which a part starts or ends: it is marked, and lies from the first reading to the last
-abbrev pub bounds : ℕ → Stands → ℕ → Bool
-bounds n s k = marked s k && (leb (firstReading n (s .readings)) k && leb k (lastReading n (s .readings)))
+abbrev pub boundsPart : ℕ → Stands → ℕ → Bool
+boundsPart n s k = marked s k && (leb (firstReading n (s .readings)) k && leb k (lastReading n (s .readings)))
 
 -- "Parts run between successive marked boundaries from the first reading to the last": so do these m parts, over n days where s stands
 pub record Successive (n : ℕ) (s : Stands) (o : Outputs) (m : ℕ) : Type 0 where
   -- there is a part
-  pub some : 0 < m
+  pub not-empty : 0 < m
   -- the first starts at the first reading
   pub starts : getD (o .from) 0 0 ≡ firstReading n (s .readings)
   -- the last ends at the last reading
@@ -47,7 +54,7 @@ pub record Successive (n : ℕ) (s : Stands) (o : Outputs) (m : ℕ) : Type 0 wh
   -- each runs from a marked boundary to the next: both are marked, and none between them is
   pub each : (i : ℕ) → i < m → Adjacent (marked s) (getD (o .from) i 0) (getD (o .to) i 0)
   -- there is one fewer than there are marked boundaries from the first reading to the last
-  pub number : suc m ≡ howMany (bounds n s) (suc n)
+  pub how-many : suc m ≡ howMany (boundsPart n s) (suc n)
 
 -- The parts of every statement are successive. (proofs/Successive, `successive`)
 abbrev pub PartsSuccessive : Type 0
@@ -56,20 +63,20 @@ PartsSuccessive = (w : List ℕ) (s : Stands) → TwoReadings w s → Successive
 -- "Its parts add up exactly to the last standing reading less the first." (`sums-up`)
 abbrev pub SumsUp : Type 0
 SumsUp =
-    (w : List ℕ) (s : Stands) → Fair w (s .readings) → TwoReadings w s →
+    (w : List ℕ) (s : Stands) → Valid w (s .readings) → TwoReadings w s →
     total (statementOf w s) (length (parts w s)) ≡ lastLessFirst (length w) (s .readings)
 
 -- "Each part is less than 1 Wh from its exact share between its two enclosing readings." (`shared`)
 abbrev pub SharesClose : Type 0
 SharesClose =
-    (w : List ℕ) (s : Stands) → Fair w (s .readings) → TwoReadings w s → (i : ℕ) → i < length (parts w s) →
+    (w : List ℕ) (s : Stands) → Valid w (s .readings) → TwoReadings w s → (i : ℕ) → i < length (parts w s) →
     Shared w (s .readings) (getD (statementOf w s .from) i 0) (getD (statementOf w s .to) i 0) (getD (statementOf w s .wh) i 0)
 
 -- "Where the same two adjacent readings with the same counts enclose a marked boundary in two statements .., the energy between the
 -- earlier of them and that boundary is the same in both." (`same-energy`)
 abbrev pub SameEnergy : Type 0
 SameEnergy =
-    (w : List ℕ) (s t : Stands) → Fair w (s .readings) → Fair w (t .readings) → (p q b : ℕ) →
+    (w : List ℕ) (s t : Stands) → Valid w (s .readings) → Valid w (t .readings) → (p q b : ℕ) →
     Adjacent (s .readings .at) p q → Adjacent (t .readings .at) p q →
     s .readings .count p ≡ t .readings .count p → s .readings .count q ≡ t .readings .count q → q ≤ length w →
     p ≤ b → b ≤ q → marked s b ≡ true → marked t b ≡ true →

@@ -28,7 +28,7 @@ pub record Summable (w : List ℕ) (p q : ℕ) : Type 0 where
 
 -- numbers of which low + nearest(e × zk / z) can be formed
 pub record Splittable (low e zk z : ℕ) : Type 0 where
-  pub some : 0 < z
+  pub positive : 0 < z
   pub share : zk ≤ z
   pub sum : z ≤ spanMost * weightMost
   pub energy : e ≤ energyMost
@@ -57,13 +57,13 @@ pub record Interval (a : Account) (q : ℕ) (o : Outputs) (d : Progress) : Type 
 -- a checked account with a reading, and outputs that are zero
 pub record Ready (a : Account) (o : Outputs) : Type 0 where
   pub checked : Checked a
-  pub some : 0 < howMany (shown a .readings .at) (suc (days a))
+  pub has-reading : 0 < howMany (shown a .readings .at) (suc (days a))
   pub clear : o ≡ written (days a) []
 
 -- the outputs hold every part, and m is their number
 pub record Filled (a : Account) (o : Outputs) (m : ℕ) : Type 0 where
   pub holds : o ≡ written (days a) (parts (a .weights) (shown a))
-  pub number : m ≡ length (parts (a .weights) (shown a))
+  pub how-many : m ≡ length (parts (a .weights) (shown a))
 
 -- a part can be added: there is room for it, its boundaries fit 16 bits, and its end has at least what its start has
 pub record Addable (o : Outputs) (d : Progress) (end value : ℕ) : Type 0 where

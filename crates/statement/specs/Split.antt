@@ -19,7 +19,7 @@ weightSum w p (suc d) = weightSum w p d + cond (leb p d) (getD w d 0) 0
 unfoldable pub shareOf : ℕ → ℕ → ℕ → ℕ
 shareOf e zk z = nearest (e * zk) z
 
--- the adjacent readings between which boundary k lies, where it has none itself: the last before it, and the first after it
+-- the adjacent readings between which boundary k lies, where it has none itself: the last before it, and the first at it or after it
 abbrev pub earlier : Readings → ℕ → ℕ
 earlier r k = last (r .at) k
 

@@ -12,7 +12,7 @@ use Rattle.profile.specs.Coefficients.{sumOf}
 use Rattle.weights.specs.Temperature.{temperatureOf}
 use Rattle.rounding.specs.Nearest.{nearest}
 use Rattle.customer.specs.Customer.{customerValue}
-use Rattle.account.specs.Below.{every, some, howMany, first, last}
+use Rattle.account.specs.Below.{everywhere, somewhere, howMany, first, last}
 use Rattle.account.specs.Stands.{neverFalling, lastLessFirst}
 use Rattle.account.specs.Account.{goodWeights, goodMarks, zeroCounts}
 use Rattle.account.specs.Refusals.{outOfOrder}
@@ -41,5 +41,5 @@ unfolding nearest
 of-sum w sum = rw sum
 
 pub starred : Starred
-unfolding inRange temperatureOf nearest every some howMany first last neverFalling lastLessFirst goodWeights goodMarks zeroCounts outOfOrder weightSum shareOf between has partsBelow sumOf
+unfolding inRange temperatureOf nearest everywhere somewhere howMany first last neverFalling lastLessFirst goodWeights goodMarks zeroCounts outOfOrder weightSum shareOf between has partsBelow sumOf
 starred = (((refl, refl), (refl, refl), (refl, refl)), (((refl, refl), (refl, refl, refl), (refl, refl, refl), (refl, refl, refl), (refl, refl, refl)), ((low, high, low-whole, high-whole), ((refl, refl, refl), (((refl, refl, refl), (refl, refl, refl), (refl, refl, refl)), ((of-sum, refl, refl), ((refl, refl, refl, refl), ((refl, refl, refl), tt))))))))

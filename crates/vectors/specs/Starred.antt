@@ -17,7 +17,7 @@ use Rattle.account.specs.Calls.{cleared, readingPut, cutPut}
 use Rattle.statement.specs.Parts.{Outputs, outputs, parts, statementOf}
 use Rattle.statement.specs.Call as statement
 use Rattle.statement.specs.Call.{statementNumber}
-use Rattle.customer.specs.Customer.{customerValue, customerRows, dailyAmount, amountRows}
+use Rattle.customer.specs.Customer.{customerValue, customerNumber, dailyAmount, amountNumber}
 
 -- each line of a table holds
 abbrev pub Holds : List (Type 0) → Type 0
@@ -85,8 +85,8 @@ equal n = replicate n 1_000_000
 abbrev sixty : ℕ → List ℕ
 sixty z = (z / 60 + z % 60) ∷ replicate 59 (z / 60)
 
-abbrev pub table : List (Type 0)
-table =
+abbrev pub cases : List (Type 0)
+cases =
     -- "Today-first means 0, 0, 0, 7 give 0; 0, 0, 0, 8 give 1; -5,000 three times and -4,999 give -5,000."
     (Gives (pos 0) (pos 0) (pos 0) (pos 7) (pos 0) ×
     Gives (pos 0) (pos 0) (pos 0) (pos 8) (pos 1) ×
@@ -111,11 +111,11 @@ table =
     -- "958,000 Wh with Z = 379,356,309: 25,253 (document 000)." So it is for all weights with that sum, and there are such that pass.
     (((w : List ℕ) → sumOf w ≡ 379_356_309 → customerValue 958_000 w ≡ 25_253) ×
     (sumOf (sixty 379_356_309) ≡ 379_356_309) ×
-    (customerRows 958_000 (sixty 379_356_309) ≡ 0)) ∷
+    (customerNumber 958_000 (sixty 379_356_309) ≡ 0)) ∷
     -- "Value 25,253, weight 1,000,000: 2,525 Wh. Value 1,000,000, weight 5: 1 Wh."
-    ((amountRows 25_253 1_000_000 ≡ 0) ×
+    ((amountNumber 25_253 1_000_000 ≡ 0) ×
     (dailyAmount 25_253 1_000_000 ≡ 2_525) ×
-    (amountRows 1_000_000 5 ≡ 0) ×
+    (amountNumber 1_000_000 5 ≡ 0) ×
     (dailyAmount 1_000_000 5 ≡ 1)) ∷
     -- "Counts 0 and 2,000,000,000 stand; 2,000,000,001 is 9."
     ((reading (reading (opened (equal 1)) 0 0) 1 2_000_000_000 .marks ≡ 2 ∷ 2 ∷ []) ×
@@ -124,4 +124,4 @@ table =
     []
 
 abbrev pub Starred : Type 0
-Starred = Holds table
+Starred = Holds cases

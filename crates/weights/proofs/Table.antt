@@ -22,9 +22,9 @@ use Rattle.weights.proofs.Span.{weights-length, weights-at}
 pub weights-bounded : (p w : ℕ) (means : List ℤ) → Ready p w means → (k : ℕ) → k < length means - 3
     → (weightLeast ≤ getD (weightsOf p w means) k 0) × (getD (weightsOf p w means) k 0 ≤ weightMost)
 weights-bounded p w means r k h =
-    let fine = all-in means (r .measured) in
+    let fine = all-in means (r .means-in-range) in
     let mild = temperature-in-range _ _ _ _ (fine (k + 3) (omega arith)) (fine (k + 2) (omega arith)) (fine (k + 1) (omega arith)) (fine k (omega arith)) in
-    let known = whole-table p ((w + k) % 7) (dayTemperature means k) (r .profiled) (omega arith) mild in
+    let known = whole-table p ((w + k) % 7) (dayTemperature means k) (r .profile-known) (omega arith) mild in
     rw (weights-at p w means k h) (known .1, known .2)
 
 -- the lengths of a call that row 3 does not decline
@@ -49,7 +49,7 @@ module _ (means : List ℤ) (before : List ℕ) where
 
 module _ (p w : ℕ) (means : List ℤ) (before : List ℕ) where
   pub unfit-met : unfit means before ≡ true → WeightsMet p w means before Unfit before means
-  unfit-met u = record { number-is = simp u; place-is = simp u; after-is = simp u; bounded = λ z. absurd (omega arith); means-stay = refl }
+  unfit-met u = record { answers = simp u; places = simp u; writes = simp u; bounded = λ z. absurd (omega arith); stays = refl }
 
   module _ (after : List ℕ) (fits : Fit means before) where
     u : unfit means before ≡ false
@@ -58,13 +58,13 @@ module _ (p w : ℕ) (means : List ℤ) (before : List ℕ) where
     pub profile-met : profileCount ≤ p → after ≡ zeros before → WeightsMet p w means before NoProfile after means
     profile-met h is =
         let e = le-leb profileCount p h in
-        record { number-is = simp (u, e); place-is = simp (u, e); after-is = simp (u, e) is; bounded = λ z. absurd (omega arith); means-stay = refl }
+        record { answers = simp (u, e); places = simp (u, e); writes = simp (u, e) is; bounded = λ z. absurd (omega arith); stays = refl }
 
     pub weekday-met : p < profileCount → 6 < w → after ≡ zeros before → WeightsMet p w means before NoWeekday after means
     weekday-met hp h is =
         let e = lt-leb profileCount p hp in
         let f = lt-ltb 6 w h in
-        record { number-is = simp (u, e, f); place-is = simp (u, e, f); after-is = simp (u, e, f) is; bounded = λ z. absurd (omega arith); means-stay = refl }
+        record { answers = simp (u, e, f); places = simp (u, e, f); writes = simp (u, e, f) is; bounded = λ z. absurd (omega arith); stays = refl }
 
     pub range-met : p < profileCount → w ≤ 6 → (k : ℕ) → k ≡ firstOut means → k < length means → after ≡ zeros before
         → WeightsMet p w means before (OutOfRange k) after means
@@ -73,27 +73,27 @@ module _ (p w : ℕ) (means : List ℤ) (before : List ℕ) where
         let f = le-ltb 6 w hw in
         let g = lt-ltb (firstOut means) (length means) (omega arith) in
         record {
-          number-is = simp (u, e, f, g);
-          place-is = simp (u, e, f, g) i;
-          after-is = simp (u, e, f, g) is;
+          answers = simp (u, e, f, g);
+          places = simp (u, e, f, g) i;
+          writes = simp (u, e, f, g) is;
           bounded = λ z. absurd (omega arith);
-          means-stay = refl;
+          stays = refl;
         }
 
     pub done-met : Ready p w means → after ≡ weightsOf p w means → WeightsMet p w means before Done after means
     done-met r is =
-        let e = lt-leb profileCount p (r .profiled) in
+        let e = lt-leb profileCount p (r .profile-known) in
         let f = le-ltb 6 w (omega arith) in
-        let g = r .measured in
+        let g = r .means-in-range in
         let n = ap length is ∙ weights-length p w means in
         record {
-          number-is = simp (u, e, f, g);
-          place-is = simp (u, e, f, g);
-          after-is = simp (u, e, f, g) is;
+          answers = simp (u, e, f, g);
+          places = simp (u, e, f, g);
+          writes = simp (u, e, f, g) is;
           bounded = λ z. record {
-            some = omega arith;
-            within = omega arith;
+            least = omega arith;
+            most = omega arith;
             each = λ k h. rw is (weights-bounded p w means r k (omega arith));
           };
-          means-stay = refl;
+          stays = refl;
         }

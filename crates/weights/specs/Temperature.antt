@@ -7,7 +7,7 @@ use Prim.Native.Nat.{ℕ, _*_}
 use lib.IntN.{ℤ, pos, _+ℤ_, _*ℤ_}
 use Rattle.profile.specs.Limits.{inRange}
 use Rattle.profile.specs.Weight.{floorℤ}
-use Rattle.profile.specs.Rows.{row}
+use Rattle.profile.specs.Rows.{row, ifDone}
 use Rattle.weights.specs.Means.{firstOut, someOut}
 use Rattle.weights.specs.declared.TemperatureAnswer.{TemperatureAnswer}
 use Rattle.weights.specs.declared.TemperatureAnswer.the-variants.{Temperature, OutOfRange}
@@ -54,15 +54,17 @@ four a b c d = a ∷ b ∷ c ∷ d ∷ []
 
 -- what the table lays down for four means: the number, the index and the temperature
 abbrev pub temperatureNumber : ℤ → ℤ → ℤ → ℤ → ℕ
-temperatureNumber a b c d = row (someOut (four a b c d)) 4 0
+temperatureNumber a b c d =
+    row (someOut (four a b c d)) 4  -- first mean out of range
+    0
 
 abbrev pub temperaturePlace : ℤ → ℤ → ℤ → ℤ → ℕ
-temperaturePlace a b c d = row (someOut (four a b c d)) (firstOut (four a b c d)) 0
+temperaturePlace a b c d = ifDone (temperatureNumber a b c d) 0 (firstOut (four a b c d))
 
 abbrev pub temperatureValue : ℤ → ℤ → ℤ → ℤ → ℤ
-temperatureValue a b c d = row (someOut (four a b c d)) (pos 0) (temperatureOf a b c d)
+temperatureValue a b c d = ifDone (temperatureNumber a b c d) (temperatureOf a b c d) (pos 0)
 
 pub record TemperatureMet (a b c d : ℤ) (answer : TemperatureAnswer) : Type 0 where
-  pub number-is : number answer ≡ temperatureNumber a b c d
-  pub place-is : place answer ≡ temperaturePlace a b c d
-  pub value-is : value answer ≡ temperatureValue a b c d
+  pub answers : number answer ≡ temperatureNumber a b c d
+  pub places : place answer ≡ temperaturePlace a b c d
+  pub gives : value answer ≡ temperatureValue a b c d

@@ -7,7 +7,7 @@ use Prim.Native.Nat.{ℕ, zero, suc, _+_, _-_, _%_, _≤_, _<_}
 use lib.Dec.{leb, ltb, eqb}
 use lib.IntN.{ℤ, pos}
 use lib.ListN.{length, getD}
-use Rattle.profile.specs.Limits.{profileCount, spanMost, isSpan, weightLeast, weightMost}
+use Rattle.profile.specs.Limits.{profileCount, spanMost, badSpan, weightLeast, weightMost}
 use Rattle.profile.specs.Weight.{weightOf}
 use Rattle.profile.specs.Rows.{row, zeros}
 use Rattle.weights.specs.Means.{firstOut, someOut}
@@ -36,16 +36,16 @@ weightsOf profile weekday means = listOf (dayWeight profile weekday means) (leng
 
 -- n is outside 1 to 1,096, or the output is not n long
 abbrev pub unfit : List ℤ → List ℕ → Bool
-unfit means out = not (isSpan (length means - 3)) || not (eqb (length out) (length means - 3))
+unfit means out = badSpan (length means - 3) || not (eqb (length out) (length means - 3))
 
 -- what the table lays down for a call: the number, the index, and what the output then holds
-pub record Outcome : Type 0 where
+pub record Ruling : Type 0 where
   pub number : ℕ
   pub place : ℕ
   pub memory : List ℕ
 
-abbrev pub outcome : ℕ → ℕ → List ℤ → List ℕ → Outcome
-outcome profile weekday means before =
+abbrev pub ruling : ℕ → ℕ → List ℤ → List ℕ → Ruling
+ruling profile weekday means before =
     row (unfit means before) (record { number = 3; place = 0; memory = before })
     (row (leb profileCount profile) (record { number = 1; place = 0; memory = zeros before })
     (row (ltb 6 weekday) (record { number = 2; place = 0; memory = zeros before })
@@ -69,19 +69,19 @@ place (OutOfRange k) = k
 
 -- weights that an account takes: as many as a span has days, "every weight that the table can give is 1 to 6,999,999"
 pub record Bounded (weights : List ℕ) : Type 0 where
-  pub some : 1 ≤ length weights
-  pub within : length weights ≤ spanMost
+  pub least : 1 ≤ length weights
+  pub most : length weights ≤ spanMost
   pub each : (k : ℕ) → k < length weights → (weightLeast ≤ getD weights k 0) × (getD weights k 0 ≤ weightMost)
 
 pub record WeightsMet (profile weekday : ℕ) (means : List ℤ) (before : List ℕ) (answer : WeightsAnswer) (after : List ℕ) (meansAfter : List ℤ) : Type 0 where
-  pub number-is : number answer ≡ outcome profile weekday means before .number
-  pub place-is : place answer ≡ outcome profile weekday means before .place
-  pub after-is : after ≡ outcome profile weekday means before .memory
+  pub answers : number answer ≡ ruling profile weekday means before .number
+  pub places : place answer ≡ ruling profile weekday means before .place
+  pub writes : after ≡ ruling profile weekday means before .memory
   pub bounded : number answer ≡ 0 → Bounded after
-  pub means-stay : meansAfter ≡ means
+  pub stays : meansAfter ≡ means
 
 -- ---- what the private functions ask: no condition of rows 1, 2 and 4 holds
 pub record Ready (profile weekday : ℕ) (means : List ℤ) : Type 0 where
-  pub profiled : profile < profileCount
-  pub dated : weekday < 7
-  pub measured : someOut means ≡ false
+  pub profile-known : profile < profileCount
+  pub weekday-known : weekday < 7
+  pub means-in-range : someOut means ≡ false

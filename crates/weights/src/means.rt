@@ -38,18 +38,18 @@ pub(crate) fn of_four(a: i16, b: i16, c: i16, d: i16) -> i16
     requires { ⌜ (inRange a ≡ true) × (inRange b ≡ true) × (inRange c ≡ true) × (inRange d ≡ true) ⌝ }
     ensures { λ r. ⌜ r ≡ temperatureOf a b c d ⌝ }
 {
-    let sum = 8 * raise(a) + 4 * raise(b) + 2 * raise(c) + raise(d);
-    lower((2 * sum + 15) / 30)
+    let sum = 8 * above_coldest(a) + 4 * above_coldest(b) + 2 * above_coldest(c) + above_coldest(d);
+    from_coldest((2 * sum + 15) / 30)
 }
 
-fn raise(mean: i16) -> u32
+fn above_coldest(mean: i16) -> u32
     requires { ⌜ inRange mean ≡ true ⌝ }
     ensures { λ r. ⌜ (mean ≡ pos r +ℤ coldest) × (r < 9000) ⌝ }
 {
     (mean - Profile::COLDEST) as u32
 }
 
-fn lower(raised: u32) -> i16
+fn from_coldest(raised: u32) -> i16
     requires { ⌜ raised < 9000 ⌝ }
     ensures { λ r. ⌜ r ≡ pos raised +ℤ coldest ⌝ }
 {

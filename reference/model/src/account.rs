@@ -1,4 +1,5 @@
-//! Section "Account and its calls": open, reading, withdraw, cut and uncut on lent slices, with the table's rows.
+//! Section "Account and its calls": open, reading, withdraw, cut and uncut on lent slices, with their rows of section
+//! "If a call declines".
 
 use crate::profile::Profile;
 use crate::{refused, Answer, Boundary, DONE};
@@ -11,7 +12,7 @@ pub fn weight_sound(weight: u32) -> bool {
     (Profile::LIGHTEST..=Profile::HEAVIEST).contains(&weight)
 }
 
-/// Row 3: n from the weights, 1 to 1,096, and the other slices n+1 long.
+/// Row 3 does not hold: n, the length of the weights, is 1 to 1,096, and marks and counts are n+1 long.
 pub fn lengths_fit(weights: &[u32], marks: &[u8], counts: &[u64]) -> bool {
     let n = weights.len();
     (1..=Profile::LONGEST).contains(&n) && marks.len() == n + 1 && counts.len() == n + 1
@@ -22,7 +23,7 @@ pub fn readings(marks: &[u8]) -> Vec<usize> {
     (0..marks.len()).filter(|k| marks[*k] & READING != 0).collect()
 }
 
-/// Row 5 does not hold.
+/// Row 5 does not hold: an account of fit lengths is sound.
 pub fn sound(weights: &[u32], marks: &[u8], counts: &[u64]) -> bool {
     let at = readings(marks);
     weights.iter().all(|weight| weight_sound(*weight))
@@ -35,7 +36,7 @@ pub fn sound(weights: &[u32], marks: &[u8], counts: &[u64]) -> bool {
         }
 }
 
-/// Rows 3 and 5, and 6 for a boundary: what every call on a boundary asks first.
+/// Rows 3, 5 and 6, in this order: what every call on a boundary asks first.
 fn boundary_call(weights: &[u32], marks: &[u8], counts: &[u64], k: Boundary) -> Option<Answer> {
     if !lengths_fit(weights, marks, counts) {
         Some(refused(3))

@@ -1,4 +1,4 @@
-//! Section "Case file": the reader over three lent slices, and what the statement program prints for a file.
+//! Section "Case file": the reader, which fills three lent slices, and what the statement program prints for a file.
 
 use crate::profile::Profile;
 use crate::temperature::in_range;
@@ -22,7 +22,8 @@ struct Reader<'a> {
 }
 
 impl Reader<'_> {
-    /// The bytes of the next item, as a little-endian number for each field; 13 at the file's length if it ends early.
+    /// The next item as one little-endian number for each of its fields, their lengths given in bytes; row 13 at the
+    /// file's length if it ends early.
     fn item(&mut self, fields: &[usize]) -> Result<Vec<u64>, Answer> {
         if self.file.len() - self.at < fields.iter().sum() {
             return Err(refused_at(13, self.file.len()));
@@ -114,7 +115,8 @@ impl Reader<'_> {
     }
 }
 
-/// Reads a case file into slices of lengths 1,096, 1,097 and 1,097 and returns n; all zero after a fault, untouched where a length is unfit.
+/// Reads a case file into slices of lengths 1,096, 1,097 and 1,097, the rest zero, and returns n. After a fault the
+/// slices are all zero; where a length is unfit they are untouched.
 pub fn read(file: &[u8], weights: &mut [u32], marks: &mut [u8], counts: &mut [u64]) -> (Answer, usize) {
     if weights.len() != WEIGHTS || marks.len() != MARKS || counts.len() != COUNTS {
         return (refused(3), 0);

@@ -1,4 +1,4 @@
-//! The console over section "Account and its calls": a script of calls in, each answer and statement out.
+//! The console, no part of the paper, over section "Account and its calls": a script of calls in, their answers out.
 
 use crate::statement::{refusal_text, text};
 use crate::{account, statement, value, Answer, Boundary, Mean, ProfileNumber, Weekday, DONE, LARGEST_BOUNDARY};
@@ -15,7 +15,7 @@ enum Line {
     Statement,
 }
 
-/// A decimal number that the type T holds: digits only.
+/// A decimal number that the type T holds: digits only, zeros in front allowed.
 fn number<T: TryFrom<i128>>(word: &str) -> Option<T> {
     if word.is_empty() || !word.bytes().all(|byte| byte.is_ascii_digit()) {
         return None;
@@ -27,7 +27,7 @@ fn number<T: TryFrom<i128>>(word: &str) -> Option<T> {
     T::try_from(format!("0{digits}").parse::<i128>().unwrap()).ok()
 }
 
-/// A mean: a minus sign stands before a negative one.
+/// A mean: a minus sign may stand before its digits, also before 0.
 fn mean(word: &str) -> Option<Mean> {
     match word.strip_prefix('-') {
         Some(digits) => Mean::try_from(-number::<i128>(digits)?).ok(),
@@ -109,7 +109,7 @@ impl Account {
     }
 }
 
-/// What is run of an input: all of it, or, if it is longer than a script, the lines that end within the limit.
+/// What is run of an input: all of it, or, if it is longer than a script may be, the lines that end within the limit.
 fn script(input: &[u8]) -> &[u8] {
     if input.len() <= MOST_BYTES {
         return input;

@@ -1,4 +1,4 @@
-//! Section "Customer value and daily amount".
+//! Section "Customer value and daily amount": the two calls, with their rows of section "If a call declines".
 
 use crate::account::{weight_sound, MOST_ENERGY};
 use crate::profile::Profile;

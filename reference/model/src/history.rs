@@ -1,9 +1,11 @@
-//! Demand 3: what stands after a list of calls, read from the calls and their arguments alone, never from slices.
+//! Section "Account and its calls", demand 3: what stands after a list of calls, read from the calls and their
+//! arguments alone, never from marks and counts.
 
 use crate::account::MOST_ENERGY;
 use crate::{nearest, Boundary};
 use std::collections::{BTreeMap, BTreeSet};
 
+/// A call after an accepted open; a further open in a list is `Standing::opened` again.
 #[derive(Clone, Debug, PartialEq, Eq)]
 pub enum Call {
     Reading(Boundary, u64),
@@ -41,7 +43,8 @@ impl Standing {
         &self.readings
     }
 
-    /// The table's number for a call, what stands being taken for the marks and counts.
+    /// The number of the row in section "If a call declines" that refuses a call, 0 if none does, what stands being
+    /// taken for the marks and counts.
     pub fn answer(&self, call: &Call) -> u8 {
         let n = self.weights.len();
         match *call {
@@ -116,7 +119,7 @@ impl Standing {
         self.weights[from..to].iter().map(|weight| *weight as i128).sum()
     }
 
-    /// The parts that the rule gives for what stands, interval by interval of adjacent readings.
+    /// The parts of the statement of what stands, one pair of adjacent readings after the other.
     pub fn parts(&self) -> Vec<Part> {
         let mut parts = Vec::new();
         for ((p, low), (q, high)) in self.readings.iter().zip(self.readings.iter().skip(1)) {
@@ -133,12 +136,12 @@ impl Standing {
         parts
     }
 
-    /// The last standing reading less the first.
+    /// The count of the last standing reading less that of the first; asked only where a reading stands.
     pub fn total(&self) -> u64 {
         self.readings.last_key_value().unwrap().1 - self.readings.first_key_value().unwrap().1
     }
 
-    /// Less than 1 Wh from the exact share between two enclosing readings: |Wh × Z - E × weights| < Z.
+    /// These Wh are less than 1 from the part's exact share: |Wh × Z - E × weights| < Z.
     pub fn close(&self, part: &Part, wh: u64) -> bool {
         let (p, q) = part.enclosing;
         let energy = (self.readings[&q] - self.readings[&p]) as i128;

@@ -1,4 +1,4 @@
-//! The paper's rules as plain Rust, one file for each section; here the words that all sections share.
+//! The paper's rules as plain Rust, sections "Temperature of a day" to "If a call declines"; here what the files share.
 
 pub mod account;
 pub mod casefile;
@@ -11,16 +11,17 @@ pub mod statement;
 pub mod temperature;
 pub mod value;
 
-/// A daily mean or a temperature, in hundredths of a degree.
+/// A daily mean or a temperature, in hundredths of a degree C (section "Temperature of a day").
 pub type Mean = i16;
-/// A boundary as the caller passes it, and the largest that a caller can pass.
+/// A boundary (section "Account and its calls") as the caller passes it, and the largest that a caller can pass.
 pub type Boundary = usize;
 pub const LARGEST_BOUNDARY: Boundary = Boundary::MAX;
-/// The number of a profile, and a weekday, as the caller passes them.
+/// The number of a profile, and a weekday (section "Profiles"), as the caller passes them.
 pub type ProfileNumber = u8;
 pub type Weekday = u8;
 
-/// What a call returns beside its values: the table's number (0 is done) and the place (0 if it has none).
+/// What a call returns beside its values: the number of its row in section "If a call declines" (0 is done)
+/// and the index or place (0 if it has none).
 #[derive(Clone, Copy, Debug, PartialEq, Eq)]
 pub struct Answer {
     pub number: u8,
@@ -37,7 +38,7 @@ pub fn refused_at(number: u8, place: usize) -> Answer {
     Answer { number, place }
 }
 
-/// To the nearest whole number, an exact half going up: floor(x / d + 1/2).
+/// "nearest" of the paper's first lines: an exact half goes up, so it is floor(x / d + 1/2), for d above 0.
 pub fn nearest(x: i128, d: i128) -> i128 {
     (2 * x + d).div_euclid(2 * d)
 }

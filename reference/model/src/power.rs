@@ -1,4 +1,4 @@
-//! Section "Profile value", second paragraph: a power in fixed point, rounded down and rounded up.
+//! Section "Profile value", its first two paragraphs: the exponent and the power in fixed point, low and high.
 
 pub const ONE: u128 = 1 << 30;
 
@@ -15,7 +15,7 @@ pub fn divide(x: u128, d: u128, rounding: Rounding) -> u128 {
     }
 }
 
-/// The square root of x as a whole number.
+/// The square root of x, rounded to a whole number.
 pub fn square_root(x: u128, rounding: Rounding) -> u128 {
     let floor = x.isqrt();
     assert!(floor * floor <= x && x < (floor + 1) * (floor + 1));
@@ -43,15 +43,17 @@ pub fn power(r: u128, c: u128, rounding: Rounding) -> u128 {
     result
 }
 
-/// The exponent C, in ten-millionths, in units of 2^-24.
+/// The exponent in units of 2^-24, from C in ten-millionths: cLow if rounded down, cHigh if rounded up.
 pub fn exponent(c: u128, rounding: Rounding) -> u128 {
     divide(c << 24, 10_000_000, rounding)
 }
 
+/// pLow of N/M, with cHigh and everything rounded down.
 pub fn power_low(n: u128, m: u128, c: u128) -> u128 {
     power(divide(n * ONE, m, Rounding::Down), exponent(c, Rounding::Up), Rounding::Down)
 }
 
+/// pHigh of N/M, with cLow and everything rounded up.
 pub fn power_high(n: u128, m: u128, c: u128) -> u128 {
     power(divide(n * ONE, m, Rounding::Up), exponent(c, Rounding::Down), Rounding::Up)
 }

@@ -1,4 +1,4 @@
-//! Section "Profiles": the record, the limits, and the ten profiles of tables 4 and 5.
+//! Section "Profiles": the record, the limits, and the ten profiles of tables 4 and 5 of source document 001.
 
 use crate::Mean;
 
@@ -24,7 +24,7 @@ impl Profile {
     pub const LONGEST: usize = 1_096;
 }
 
-/// In the order of table 4.
+/// Numbers 0 to 9, in the order of table 4.
 pub static PROFILES: [Profile; 10] = [
     // HEF33
     Profile {

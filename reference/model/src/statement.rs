@@ -1,4 +1,5 @@
-//! Section "Account and its calls", the statement: parts between marked boundaries, written into lent slices.
+//! Section "Account and its calls", the statement: parts between marked boundaries, written into lent slices; and
+//! section "Case file", how a statement and a refusal are printed.
 
 use crate::account::{lengths_fit, readings, sound, MOST_ENERGY, READING};
 use crate::profile::Profile;
@@ -8,7 +9,8 @@ fn sum(weights: &[u32]) -> i128 {
     weights.iter().map(|weight| *weight as i128).sum()
 }
 
-/// What boundary k has: a reading's count, or the count of the reading before it plus the share up to k.
+/// What boundary k has, from the first reading to the last: its reading's count, or count(p) + nearest(E × Zk / Z)
+/// between the readings p and q on either side of it.
 fn has(weights: &[u32], marks: &[u8], counts: &[u64], k: usize) -> u64 {
     if marks[k] & READING != 0 {
         return counts[k];
@@ -20,7 +22,7 @@ fn has(weights: &[u32], marks: &[u8], counts: &[u64], k: usize) -> u64 {
     counts[p] + nearest(energy * sum(&weights[p..k]), sum(&weights[p..q])) as u64
 }
 
-/// The parts of a sound account: from, to and Wh of each.
+/// The parts of a sound account that has a reading: from, to and Wh of each.
 pub fn parts(weights: &[u32], marks: &[u8], counts: &[u64]) -> Vec<(usize, usize, u64)> {
     let at = readings(marks);
     let (first, last) = (at[0], at[at.len() - 1]);
@@ -60,7 +62,8 @@ pub fn statement(
     (DONE, parts.len())
 }
 
-/// The statement as the programs print it: the number of parts, a line for each, their sum; empty for what none can be.
+/// The statement as the programs print it: the number of parts, a line for each, their sum; empty for what no
+/// statement can be.
 pub fn text(from: &[u16], to: &[u16], wh: &[u64], parts: usize) -> String {
     if impossible(from, to, wh, parts) {
         return String::new();
@@ -77,14 +80,16 @@ pub fn refusal_text(answer: Answer) -> String {
     format!("refused {} {}\n", answer.number, answer.place)
 }
 
-/// A text at the start of a lent buffer, as much of it as fits; the length of the whole text.
+/// Stores a text at the start of a lent buffer, as much of it as fits, and returns the length of the whole text. The
+/// paper has no such call.
 pub fn lay_out(text: &str, out: &mut [u8]) -> usize {
     let fitting = text.len().min(out.len());
     out[..fitting].copy_from_slice(&text.as_bytes()[..fitting]);
     text.len()
 }
 
-/// What no statement can be: no part, too many for these outputs or for any span, or a part that is too great.
+/// What no statement can be: no part, more parts than these slices or the longest span hold, or a part above
+/// 2,000,000,000 Wh.
 pub fn impossible(from: &[u16], to: &[u16], wh: &[u64], parts: usize) -> bool {
     let longest = from.len().min(to.len()).min(wh.len()).min(Profile::LONGEST);
     parts == 0 || parts > longest || wh[..parts].iter().any(|part| *part > MOST_ENERGY)

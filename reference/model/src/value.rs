@@ -1,11 +1,12 @@
-//! Section "Profile value": the value low and high, a day's weight, and the weights of a span of days.
+//! Section "Profile value": the value low and high and a day's weight; and the weights of a span, whose days and
+//! weekdays are those of section "Temperature of a day".
 
 use crate::power::{divide, power_high, power_low, Rounding, ONE};
 use crate::profile::{Profile, PROFILES};
 use crate::temperature::{in_range, rule};
 use crate::{refused, refused_at, Answer, Mean, ProfileNumber, Weekday, DONE};
 
-/// The share s, low and high: 1/(1+y) on the cold side and y/(1+y) on the warm one, in units of 1/one.
+/// The share s, low and high, in units of 1/one: 1/(1+y) on the cold side and y/(1+y) on the warm one, y the power.
 fn share(profile: &Profile, t: Mean) -> (u128, u128) {
     let b = profile.b.unsigned_abs() as u128;
     let u = (4_000 - t as i128) as u128 * 100_000;
@@ -35,7 +36,7 @@ pub fn value_rule(profile: &Profile, t: Mean) -> (i64, i64) {
     (low, high)
 }
 
-/// A day's weight in millionths.
+/// A day's weight in millionths: floor(low value × F / 10^7).
 pub fn weight_rule(profile: &Profile, weekday: usize, t: Mean) -> u32 {
     let low = value_rule(profile, t).0;
     (low * profile.factors[weekday]).div_euclid(10_000_000) as u32
@@ -65,7 +66,7 @@ pub fn day_weight(profile: ProfileNumber, weekday: Weekday, t: Mean) -> (Answer,
     (DONE, weight_rule(&PROFILES[profile as usize], weekday as usize, t))
 }
 
-/// The weights of the days of a series, oldest mean first.
+/// The weights of the days of a series, oldest mean first: day k has its own mean at index k+3.
 pub fn weights(profile: ProfileNumber, weekday: Weekday, means: &[Mean], out: &mut [u32]) -> Answer {
     if means.len() < 4 || means.len() > Profile::LONGEST + 3 || out.len() != means.len() - 3 {
         return refused(3);

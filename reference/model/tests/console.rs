@@ -1,4 +1,5 @@
-//! The console over section "Account and its calls": a script with every call and every refusal that it can reach.
+//! The console, no part of the paper, over section "Account and its calls": every call, every refusal that a script can
+//! reach, lines that are no calls, and the limit of a script.
 
 use model::console::console;
 

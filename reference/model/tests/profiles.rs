@@ -1,4 +1,5 @@
-//! Section "Profiles": the constants against the figures as tables 4 and 5 print them, and the range of the weights.
+//! Section "Profiles": the constants against the figures as tables 4 and 5 print them, and the range of the weights;
+//! section "Profile value": the power is enclosed.
 
 use model::power::{power_high, power_low, ONE};
 use model::profile::{Profile, PROFILES};
@@ -59,7 +60,8 @@ fn weights_over_the_whole_table() {
     assert_eq!(weight_rule(&PROFILES[0], 0, 1_000), 786_165);
 }
 
-/// The exact power lies between the two bounds, up to what f64 can tell (about 10^-6 of a unit).
+/// The exact power lies between pLow and pHigh, as far as f64 tells: over these cases its error is below 10^-6 of a
+/// unit, and 10^-5 is allowed.
 #[test]
 fn the_power_is_enclosed() {
     let enclosed = |n: u128, m: u128, c: u128| {

@@ -1,4 +1,5 @@
-//! Section "If a call declines": each row once for each call it applies to, the order of the checks, the memory after.
+//! Section "If a call declines": rows 1 to 11 and 13, the order of the checks, the memory after. Row 12 stands in
+//! vectors.rs, row 4 of a day's weight in starred.rs.
 
 use model::account::{cut, open, reading, uncut, withdraw};
 use model::casefile::{program, read};
@@ -54,7 +55,8 @@ fn weights_of_a_span() {
     }
 }
 
-/// Runs all five calls on an account that should refuse them all alike, and sees that nothing changed.
+/// Runs the four calls on a boundary above n, and the statement too if the answer is not 6, on an account that should
+/// refuse them all alike, and sees that nothing changed.
 fn all_refuse(weights: &[u32], marks: &[u8], counts: &[u64], answer: Answer) {
     let (mut m, mut c) = (marks.to_vec(), counts.to_vec());
     let k = usize::MAX;
@@ -150,7 +152,7 @@ const FILE: [u8; 44] = [
     0x58, 2, 0, 0, 0, 0, 0, 0, 2, 0, 1, 0, 2, 0,
 ];
 
-/// The example file with some bytes changed.
+/// The example of section "Case file" with some bytes changed.
 fn changed(changes: &[(usize, u8)]) -> Vec<u8> {
     let mut file = FILE.to_vec();
     changes.iter().for_each(|(at, byte)| file[*at] = *byte);

@@ -1,4 +1,4 @@
-//! Section "Starred cases": every starred line of the paper, and its example file.
+//! Section "Starred cases": every starred line and the line "By program"; section "Case file": its example.
 
 use model::account::{cut, open, reading};
 use model::casefile::{program, read};

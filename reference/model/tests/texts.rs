@@ -1,4 +1,5 @@
-//! Section "Case file": the texts of a statement and of a refusal, laid out into a lent buffer, and what has no text.
+//! Section "Case file": the texts of a statement and of a refusal; and, beyond the paper, how they are laid out in a lent
+//! buffer and what has no text.
 
 use model::statement::{lay_out, refusal_text, statement, text};
 use model::{refused, refused_at};

@@ -1,4 +1,5 @@
-//! Sections "Temperature of a day" to "Customer value and daily amount": worked numbers of the source documents.
+//! Sections "Temperature of a day", "Profile value" and "Customer value and daily amount": worked numbers of the source
+//! documents and of the rules.
 
 use model::customer::{customer_value, daily_amount};
 use model::profile::PROFILES;
@@ -22,7 +23,8 @@ fn allocation_temperature() {
     assert_eq!(temperature(-200, 50, 340, 360), (DONE, -24));
 }
 
-/// Document 000 prints five decimals: 1.00000 for every profile but cooking gas.
+/// Document 000 prints five decimals: 1.00000 for every profile but HKO03, which has 1.05612; then three values low and
+/// high that the rule gives.
 #[test]
 fn values_at_eight_degrees() {
     for profile in 0..10 {
@@ -36,7 +38,8 @@ fn values_at_eight_degrees() {
     assert_eq!(value(7, 700), (DONE, 1_021_645_550, 1_021_645_550));
 }
 
-/// Column "Temp.-KP": the heating line is the larger one at that temperature, the water line one hundredth above.
+/// Column "Temp.-KP" of document 000: the heating line is the larger one at that temperature, the water line one
+/// hundredth of a degree above it.
 #[test]
 fn the_larger_line() {
     for (profile, t) in [(0, 1_546), (3, 1_472), (7, 869), (5, 1_480)] {

@@ -17,7 +17,7 @@ lent c = account (c .args .weights .now) (c .args .marks .now) (c .args .counts 
 
 -- the number that the rows give
 tells : (a : Account) (n : ℕ) → accountRows a 0 ≡ n → CheckMet a n a
-tells a n e = record { answers = sym e; leaves = refl }
+tells a n e = record { answers = sym e; stays = refl }
 
 -- what is known after each test that was not taken
 fits : (c : tie.Else1) → unfit (lent (c .before .before .before .before .before)) ≡ false

@@ -9,7 +9,7 @@ use borrow.Author.Needs.{needs}
 use borrow.Author.Tests.{le-leb, lt-leb}
 use lib.ListN.{length, getD}
 use Rattle.profile.specs.Limits.{weightLeast, weightMost}
-use Rattle.account.specs.Below.{every}
+use Rattle.account.specs.Below.{everywhere}
 use Rattle.account.specs.Account.{goodWeight, goodWeights}
 use Rattle.account.specs.Calls.{GoodWeightsMet}
 use Rattle.account.proofs.Below.{every-zero, every-more, every-fails}
@@ -27,14 +27,14 @@ good x l h = rw (le-leb weightLeast x l, le-leb x weightMost h)
 
 fails : (w : List ℕ) (d : ℕ) → d < length w → goodWeight (getD w d 0) ≡ false → GoodWeightsMet w false w
 unfolding goodWeights
-fails w d l h = record { says = sym (every-fails _ _ d l h); leaves = refl }
+fails w d l h = record { says = sym (every-fails _ _ d l h); stays = refl }
 
-all : (w : List ℕ) (d : ℕ) → d ≡ length w → every (λ j. goodWeight (getD w j 0)) d ≡ true → GoodWeightsMet w true w
+all : (w : List ℕ) (d : ℕ) → d ≡ length w → everywhere (λ j. goodWeight (getD w j 0)) d ≡ true → GoodWeightsMet w true w
 unfolding goodWeights
-all w d e h = record { says = sym (subst (λ (m : ℕ). every (λ j. goodWeight (getD w j 0)) m ≡ true) e h); leaves = refl }
+all w d e h = record { says = sym (subst (λ (m : ℕ). everywhere (λ j. goodWeight (getD w j 0)) m ≡ true) e h); stays = refl }
 
 abbrev Inv-loop : tie.InvT-loop
-Inv-loop weights d₀ d = (d ≤ length weights) × (every (λ j. goodWeight (getD weights j 0)) d ≡ true)
+Inv-loop weights d₀ d = (d ≤ length weights) × (everywhere (λ j. goodWeight (getD weights j 0)) d ≡ true)
 
 abbrev μ-loop : tie.MeasureT-loop
 μ-loop weights d₀ d = length weights - d

@@ -34,9 +34,6 @@ slice-aggregate-case-text-5 c = search needs
 case-text-requires : tie.Need-case-text-requires
 case-text-requires c κs = search needs
 
-array-share-prefix-file-2 : tie.Need-array-share-prefix-file-2
-array-share-prefix-file-2 c = search needs
-
 slice-aggregate-print : tie.Need-slice-aggregate-print
 slice-aggregate-print c = search needs
 
@@ -47,7 +44,7 @@ slice-aggregate-print-2 : tie.Need-slice-aggregate-print-2
 slice-aggregate-print-2 c = sym (length-take-le _ _ (omega arith))
 
 print-requires : tie.Need-print-requires
-print-requires c κs = prints-file _ _ _ _ _ _ _ (c .before .before .before .before .before .before .case-text .ensures .0) refl (omega arith)
+print-requires c κs = (omega arith, prints-file _ _ _ _ _ _ _ (c .before .before .before .before .before .before .case-text .ensures .0) refl (omega arith))
 
 returns : tie.Need-returns
 returns c = search needs
@@ -65,7 +62,6 @@ print-case-spec =
     slice-aggregate-case-text-4
     slice-aggregate-case-text-5
     case-text-requires
-    array-share-prefix-file-2
     slice-aggregate-print
     array-share-prefix-text
     slice-aggregate-print-2

@@ -8,8 +8,7 @@ use borrow.Author.Tests.{le-leb, lt-leb, lt-ltb, le-ltb, not-true, not-false}
 use lib.Dec.{ltb}
 use lib.ListN.{length}
 use Rattle.rounding.specs.Nearest.{nearest}
-use Rattle.profile.specs.Limits.{spanMost}
-use Rattle.account.specs.Account.{badSpan}
+use Rattle.profile.specs.Limits.{spanMost, badSpan}
 use Rattle.customer.specs.Customer.{customerValue, valueMost}
 use borrow.Author.Needs.{needs}
 use Rattle.customer.proofs.customer_value.Statement.{statement}
@@ -21,14 +20,14 @@ spanned w some-days most = simp (le-leb 1 (length w) (omega arith), le-leb (leng
 returns : tie.Need-returns
 returns c =
     let short = lt-leb 1 (length (c .before .before .args .weights .now)) (omega (arith, c .if1 .taken)) in
-    record { answers = simp short; values = simp short; stays = refl }
+    record { answers = simp short; gives = simp short; stays = refl }
 
 returns-2 : tie.Need-returns-2
 returns-2 c =
     let n = length (c .before .before .before .args .weights .now) in
     let some-days = le-leb 1 n (omega (arith, c .before .if1 .left)) in
     let long = lt-leb n spanMost (c .if2 .taken) in
-    record { answers = simp (some-days, long); values = simp (some-days, long); stays = refl }
+    record { answers = simp (some-days, long); gives = simp (some-days, long); stays = refl }
 
 good-weights-requires : tie.Need-good-weights-requires
 good-weights-requires c κs = search needs
@@ -38,7 +37,7 @@ returns-3 c =
     let w = c .before .before .before .before .before .args .weights .now in
     let span = spanned w (c .before .before .before .if1 .left) (c .before .before .if2 .left) in
     let bad = sym (c .before .good-weights .ensures .says) ∙ not-true _ (c .if3 .taken) in
-    record { answers = simp (span, bad); values = simp (span, bad); stays = refl }
+    record { answers = simp (span, bad); gives = simp (span, bad); stays = refl }
 
 returns-4 : tie.Need-returns-4
 returns-4 c =
@@ -46,13 +45,13 @@ returns-4 c =
     let span = spanned (a .weights .now) (c .before .before .before .before .if1 .left) (c .before .before .before .if2 .left) in
     let good = sym (c .before .before .good-weights .ensures .says) ∙ not-false _ (c .before .if3 .left) in
     let much = lt-ltb 2_000_000_000 (a .energy) (c .if4 .taken) in
-    record { answers = simp (span, good, much); values = simp (span, good, much); stays = refl }
+    record { answers = simp (span, good, much); gives = simp (span, good, much); stays = refl }
 
 mul-nearest-of : tie.Need-mul-nearest-of
 mul-nearest-of c = search needs
 
-total-requires : tie.Need-total-requires
-total-requires c κs = search needs
+sum-of-requires : tie.Need-sum-of-requires
+sum-of-requires c κs = search needs
 
 nearest-of-requires : tie.Need-nearest-of-requires
 nearest-of-requires c κs = search needs
@@ -65,9 +64,9 @@ returns-5 c =
     let good = sym (e .before .before .good-weights .ensures .says) ∙ not-false _ (e .before .if3 .left) in
     let energy = le-ltb 2_000_000_000 (a .energy) (e .if4 .left) in
     let value : c .before .nearest-of .result ≡ customerValue (a .energy) (a .weights .now) =
-    c .before .nearest-of .ensures ∙ ap (nearest (a .energy * 10_000_000)) (c .before .before .total .ensures) in
+    c .before .nearest-of .ensures ∙ ap (nearest (a .energy * 10_000_000)) (c .before .before .sum-of .ensures) in
     let great = ap (ltb valueMost) (sym value) ∙ lt-ltb valueMost _ (c .if5 .taken) in
-    record { answers = simp (span, good, energy, great); values = simp (span, good, energy, great); stays = refl }
+    record { answers = simp (span, good, energy, great); gives = simp (span, good, energy, great); stays = refl }
 
 returns-6 : tie.Need-returns-6
 returns-6 c =
@@ -77,9 +76,9 @@ returns-6 c =
     let good = sym (e .before .before .good-weights .ensures .says) ∙ not-false _ (e .before .if3 .left) in
     let energy = le-ltb 2_000_000_000 (a .energy) (e .if4 .left) in
     let value : c .before .nearest-of .result ≡ customerValue (a .energy) (a .weights .now) =
-    c .before .nearest-of .ensures ∙ ap (nearest (a .energy * 10_000_000)) (c .before .before .total .ensures) in
+    c .before .nearest-of .ensures ∙ ap (nearest (a .energy * 10_000_000)) (c .before .before .sum-of .ensures) in
     let small = ap (ltb valueMost) (sym value) ∙ le-ltb valueMost _ (c .if5 .left) in
-    record { answers = simp (span, good, energy, small); values = simp (span, good, energy, small) value; stays = refl }
+    record { answers = simp (span, good, energy, small); gives = simp (span, good, energy, small) value; stays = refl }
 
 pub customer-value-spec : {M : Type 1} → statement M
 customer-value-spec =
@@ -91,7 +90,7 @@ customer-value-spec =
     returns-3
     returns-4
     mul-nearest-of
-    total-requires
+    sum-of-requires
     nearest-of-requires
     returns-5
     returns-6)

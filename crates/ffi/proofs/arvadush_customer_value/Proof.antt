@@ -6,13 +6,13 @@ use borrow.Author.Needs.{needs}
 use Rattle.ffi.specs.declared.Outcome.{Outcome}
 use Rattle.customer.specs.declared.CustomerAnswer.{CustomerAnswer}
 use Rattle.customer.specs.Customer as customer
-use Rattle.ffi.specs.Calls.{told, CustomerReturned}
+use Rattle.ffi.specs.Calls.{outcomeOf, CustomerReturned}
 use Rattle.ffi.proofs.arvadush_customer_value.Statement.{statement}
 use Rattle.ffi.proofs.arvadush_customer_value.Tie as tie
 
-met-told : (energy : ℕ) (w : List ℕ) (answer : CustomerAnswer) (r : Outcome) (after : List ℕ) → r ≡ told (customer.number answer) 0 (customer.value answer) →
+met-told : (energy : ℕ) (w : List ℕ) (answer : CustomerAnswer) (r : Outcome) (after : List ℕ) → r ≡ outcomeOf (customer.number answer) 0 (customer.value answer) →
     customer.CustomerMet energy w answer after → CustomerReturned energy w r after
-met-told energy w answer r after e met = rw e (record { answers = met .answers; place = refl; values = met .values; stays = met .stays })
+met-told energy w answer r after e met = rw e (record { answers = met .answers; places = refl; gives = met .gives; stays = met .stays })
 
 customer-value-requires : tie.Need-customer-value-requires
 customer-value-requires c κs = search needs

@@ -5,13 +5,13 @@ use borrow.Author.Needs.{needs}
 use Rattle.ffi.specs.declared.Outcome.{Outcome}
 use Rattle.customer.specs.declared.CustomerAnswer.{CustomerAnswer}
 use Rattle.customer.specs.Customer as customer
-use Rattle.ffi.specs.Calls.{told, AmountReturned}
+use Rattle.ffi.specs.Calls.{outcomeOf, AmountReturned}
 use Rattle.ffi.proofs.arvadush_daily_amount.Statement.{statement}
 use Rattle.ffi.proofs.arvadush_daily_amount.Tie as tie
 
-met-told : (v weight : ℕ) (answer : CustomerAnswer) (r : Outcome) → r ≡ told (customer.number answer) 0 (customer.value answer) →
+met-told : (v weight : ℕ) (answer : CustomerAnswer) (r : Outcome) → r ≡ outcomeOf (customer.number answer) 0 (customer.value answer) →
     customer.AmountMet v weight answer → AmountReturned v weight r
-met-told v weight answer r e met = rw e (record { answers = met .answers; place = refl; values = met .values })
+met-told v weight answer r e met = rw e (record { answers = met .answers; places = refl; gives = met .gives })
 
 daily-amount-requires : tie.Need-daily-amount-requires
 daily-amount-requires c κs = search needs

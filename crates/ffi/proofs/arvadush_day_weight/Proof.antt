@@ -7,19 +7,19 @@ use borrow.Author.Needs.{needs}
 use Rattle.ffi.specs.declared.Outcome.{Outcome}
 use Rattle.profile.specs.declared.WeightAnswer.{WeightAnswer}
 use Rattle.profile.specs.Answers as profiles
-use Rattle.profile.specs.Answers.{weightNumber, weightGiven}
-use Rattle.ffi.specs.Calls.{told, WeightReturned}
+use Rattle.profile.specs.Answers.{weightAnswered, weightGiven}
+use Rattle.ffi.specs.Calls.{outcomeOf, WeightReturned}
 use Rattle.ffi.proofs.arvadush_day_weight.Statement.{statement}
 use Rattle.ffi.proofs.arvadush_day_weight.Tie as tie
 
-met-told : (k weekday : ℕ) (t : ℤ) (answer : WeightAnswer) (r : Outcome) → r ≡ told (weightNumber answer) 0 (weightGiven answer) →
+met-told : (k weekday : ℕ) (t : ℤ) (answer : WeightAnswer) (r : Outcome) → r ≡ outcomeOf (weightAnswered answer) 0 (weightGiven answer) →
     profiles.WeightMet k weekday t answer → WeightReturned k weekday t r
 met-told k weekday t answer r e met =
     rw e
     (record {
-      number = met .number;
-      place = refl;
-      weight = met .weight;
+      answers = met .answers;
+      places = refl;
+      gives = met .gives;
       floored = met .floored;
       least = met .least;
       most = met .most;

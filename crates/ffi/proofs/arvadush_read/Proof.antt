@@ -7,15 +7,15 @@ use Rattle.ffi.specs.declared.Outcome.{Outcome}
 use Rattle.account.specs.Account.{Account}
 use Rattle.casefile.specs.declared.CaseAnswer.{CaseAnswer}
 use Rattle.casefile.specs.Reader as reader
-use Rattle.ffi.specs.Calls.{told, ReadReturned}
+use Rattle.ffi.specs.Calls.{outcomeOf, ReadReturned}
 use Rattle.ffi.proofs.arvadush_read.Statement.{statement}
 use Rattle.ffi.proofs.arvadush_read.Tie as tie
 
 met-told : (file : List ℕ) (lent after : Account) (kept : List ℕ) (answer : CaseAnswer) (r : Outcome) →
-    r ≡ told (reader.number answer) (reader.place answer) (reader.days answer) → reader.ReadMet file lent answer after kept →
+    r ≡ outcomeOf (reader.number answer) (reader.place answer) (reader.days answer) → reader.ReadMet file lent answer after kept →
     ReadReturned file lent r after kept
 met-told file lent after kept answer r e met =
-    rw e (record { numbers = met .numbers; places = met .places; returns = met .returns; fills = met .fills; keeps = met .keeps })
+    rw e (record { answers = met .answers; places = met .places; gives = met .gives; writes = met .writes; stays = met .stays })
 
 read-case-requires : tie.Need-read-case-requires
 read-case-requires c κs = search needs

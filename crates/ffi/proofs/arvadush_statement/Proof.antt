@@ -6,15 +6,15 @@ use Rattle.account.specs.Account.{Account}
 use Rattle.statement.specs.Parts.{Outputs}
 use Rattle.statement.specs.declared.StatementAnswer.{StatementAnswer}
 use Rattle.statement.specs.Call as call
-use Rattle.ffi.specs.Calls.{told, StatementReturned}
+use Rattle.ffi.specs.Calls.{outcomeOf, StatementReturned}
 use Rattle.ffi.proofs.arvadush_statement.Statement.{statement}
 use Rattle.ffi.proofs.arvadush_statement.Tie as tie
 
 met-told : (before : Account) (lent : Outputs) (answer : StatementAnswer) (r : Outcome) (after : Account) (out : Outputs) →
-    r ≡ told (call.number answer) 0 (call.partCount answer) → call.StatementMet before lent answer after out →
+    r ≡ outcomeOf (call.number answer) 0 (call.partCount answer) → call.StatementMet before lent answer after out →
     StatementReturned before lent r after out
 met-told before lent answer r after out e met =
-    rw e (record { answers = met .answers; place = refl; counts = met .counts; stays = met .stays; writes = met .writes })
+    rw e (record { answers = met .answers; places = refl; gives = met .gives; stays = met .stays; writes = met .writes })
 
 statement-requires : tie.Need-statement-requires
 statement-requires c κs = search needs

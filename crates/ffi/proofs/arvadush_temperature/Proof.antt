@@ -22,9 +22,9 @@ returns c =
     let start = c .before .before .before .before in
     let met = simp (toZ-ofZ (start .fits .a), toZ-ofZ (start .fits .b), toZ-ofZ (start .fits .c), toZ-ofZ (start .fits .d)) at (c .before .before .before .temperature .ensures) in
     record {
-      number-is = c .before .before .temperature-number .ensures ∙ met .number-is;
-      place-is = c .before .temperature-place .ensures ∙ met .place-is;
-      value-is = toZ-ofZ (sfits-of (c .temperature-value .ok)) ∙ c .temperature-value .ensures ∙ met .value-is;
+      answers = c .before .before .temperature-number .ensures ∙ met .answers;
+      places = c .before .temperature-place .ensures ∙ met .places;
+      gives = toZ-ofZ (sfits-of (c .temperature-value .ok)) ∙ c .temperature-value .ensures ∙ met .gives;
     }
 
 pub arvadush-temperature-spec : {M : Type 1} → statement M

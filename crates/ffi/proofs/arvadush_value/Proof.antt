@@ -22,11 +22,11 @@ returns c =
     let start = c .before .before .before .before in
     let met = simp (toZ-ofZ (start .fits .t)) at (c .before .before .before .value .ensures) in
     record {
-      number = c .before .before .value-number .ensures ∙ met .number;
-      place = refl;
+      answers = c .before .before .value-number .ensures ∙ met .answers;
+      places = refl;
       low = toZ-ofZ (sfits-of (c .before .value-low .ok)) ∙ c .before .value-low .ensures ∙ met .low;
       high = toZ-ofZ (sfits-of (c .value-high .ok)) ∙ c .value-high .ensures ∙ met .high;
-      encloses = met .encloses;
+      powers-enclose = met .powers-enclose;
     }
 
 pub arvadush-value-spec : {M : Type 1} → statement M

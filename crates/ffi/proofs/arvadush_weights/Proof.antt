@@ -7,22 +7,22 @@ use borrow.Author.Needs.{needs}
 use Rattle.ffi.specs.declared.Outcome.{Outcome}
 use Rattle.weights.specs.declared.WeightsAnswer.{WeightsAnswer}
 use Rattle.weights.specs.Weights as span
-use Rattle.ffi.specs.Calls.{told, WeightsReturned}
+use Rattle.ffi.specs.Calls.{outcomeOf, WeightsReturned}
 use Rattle.ffi.proofs.arvadush_weights.Statement.{statement}
 use Rattle.ffi.proofs.arvadush_weights.Tie as tie
 
 met-told : (profile weekday : ℕ) (means : List ℤ) (before : List ℕ) (answer : WeightsAnswer) (r : Outcome) (after : List ℕ) (kept : List ℤ) →
-    r ≡ told (span.number answer) (span.place answer) 0 → span.WeightsMet profile weekday means before answer after kept →
+    r ≡ outcomeOf (span.number answer) (span.place answer) 0 → span.WeightsMet profile weekday means before answer after kept →
     WeightsReturned profile weekday means before r after kept
 met-told profile weekday means before answer r after kept e met =
     rw e
     (record {
-      number-is = met .number-is;
-      place-is = met .place-is;
-      value-is = refl;
-      after-is = met .after-is;
+      answers = met .answers;
+      places = met .places;
+      gives = refl;
+      writes = met .writes;
       bounded = met .bounded;
-      means-stay = met .means-stay;
+      stays = met .stays;
     })
 
 weights-requires : tie.Need-weights-requires

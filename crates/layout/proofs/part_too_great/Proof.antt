@@ -6,7 +6,7 @@ use native.Mathlib.Omega.{arith}
 use borrow.Author.Tests.{lt-ltb, le-ltb}
 use lib.Dec.{ltb}
 use lib.ListN.{getD}
-use Rattle.account.specs.Below.{some}
+use Rattle.account.specs.Below.{somewhere}
 use Rattle.account.specs.Account.{energyMost}
 use Rattle.account.proofs.Below.{some-zero, some-at}
 use Rattle.layout.proofs.Sums.{some-more}
@@ -14,7 +14,7 @@ use Rattle.layout.proofs.part_too_great.Statement.{statement}
 use Rattle.layout.proofs.part_too_great.Tie as tie
 
 abbrev Inv-loop : tie.InvT-loop
-Inv-loop wh parts i₀ i = (i ≤ parts) × (some (λ k. ltb energyMost (getD wh k 0)) i ≡ false)
+Inv-loop wh parts i₀ i = (i ≤ parts) × (somewhere (λ k. ltb energyMost (getD wh k 0)) i ≡ false)
 
 abbrev μ-loop : tie.MeasureT-loop
 μ-loop wh parts i₀ i = parts - i

@@ -6,7 +6,7 @@ use borrow.Author.Tests.{lt-ltb, le-ltb, eq-eqb, ne-eqb}
 use lib.Dec.{ltb}
 use lib.ListN.{length, getD}
 use Rattle.profile.specs.Limits.{spanMost}
-use Rattle.account.specs.Below.{some}
+use Rattle.account.specs.Below.{somewhere}
 use Rattle.account.specs.Account.{energyMost}
 use Rattle.statement.specs.Parts.{outputs}
 use Rattle.layout.specs.Text.{noStatement}
@@ -17,7 +17,7 @@ use Rattle.layout.proofs.statement_text.Tie as tie
 
 -- with the lengths in order, there is a statement unless a part is too great
 in-order : (f t e : List ℕ) (m : ℕ) → (m ≡ 0 → ⊥) → m ≤ spanMost → m ≤ length f → m ≤ length t → m ≤ length e →
-    noStatement (outputs f t e) m ≡ some (λ i. ltb energyMost (getD e i 0)) m
+    noStatement (outputs f t e) m ≡ somewhere (λ i. ltb energyMost (getD e i 0)) m
 in-order f t e m h0 h1 h2 h3 h4 =
     simp (ne-eqb m 0 h0, le-ltb spanMost m h1, le-ltb (length f) m h2, le-ltb (length t) m h3, le-ltb (length e) m h4)
 
@@ -62,8 +62,8 @@ returns-6 c =
     sym (c .before .part-too-great .ensures) ∙
     c .if6 .taken)
 
-sum-of-requires : tie.Need-sum-of-requires
-sum-of-requires c κs = (search needs, search needs, sym (c .before .part-too-great .ensures) ∙ c .if6 .left)
+total-requires : tie.Need-total-requires
+total-requires c κs = (search needs, search needs, sym (c .before .part-too-great .ensures) ∙ c .if6 .left)
 
 parts-text-requires : tie.Need-parts-text-requires
 parts-text-requires c κs = search needs
@@ -75,7 +75,7 @@ returns-7 : tie.Need-returns-7
 returns-7 c =
     let a = c .before .before .before .before .before .before .before .before .before .before .before .before .before .before .before .before .args in
     let text = c .before .before .parts-text in
-    let sum = c .before .before .before .before .sum-of in
+    let sum = c .before .before .before .before .total in
     given-laid (outputs (a .from .now) (a .to .now) (a .wh .now)) (a .parts) (sum .result) _ _ _
     (in-order (a .from .now) (a .to .now) (a .wh .now) (a .parts) (c .before .before .before .before .before .before .before .before .before .before .before .if1 .left) (c .before .before .before .before .before .before .before .before .before .before .if2 .left) (c .before .before .before .before .before .before .before .before .before .if3 .left) (c .before .before .before .before .before .before .before .before .if4 .left) (c .before .before .before .before .before .before .before .if5 .left) ∙
     sym (c .before .before .before .before .before .before .part-too-great .ensures) ∙
@@ -94,7 +94,7 @@ statement-text-spec =
     returns-5
     part-too-great-requires
     returns-6
-    sum-of-requires
+    total-requires
     parts-text-requires
     same-length
     returns-7)

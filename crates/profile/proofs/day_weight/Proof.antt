@@ -9,7 +9,7 @@ use lib.Dec.{eqb·suc-zero}
 use lib.IntN.{ℤ}
 use mir.Facts.{toZ-ofZ}
 use Rattle.profile.specs.Limits.{inRange}
-use Rattle.profile.specs.Answers.{weightRefusal, weightNumber, weightGiven, WeightMet}
+use Rattle.profile.specs.Answers.{weightNumber, weightAnswered, weightGiven, WeightMet}
 use Rattle.profile.specs.declared.WeightAnswer.{WeightAnswer}
 use Rattle.profile.specs.declared.WeightAnswer.the-variants.{NoProfile, NoWeekday, OutOfRange}
 use Rattle.profile.proofs.Bounds.{whole-table}
@@ -17,11 +17,11 @@ use Rattle.profile.proofs.day_weight.Statement.{statement}
 use Rattle.profile.proofs.day_weight.Tie as tie
 
 -- an answer that gives no weight, where a row's number says so
-declined : {k w : ℕ} {t : ℤ} (r : WeightAnswer) (n : ℕ) → weightRefusal k w t ≡ suc n → weightNumber r ≡ suc n → weightGiven r ≡ 0 → WeightMet k w t r
+declined : {k w : ℕ} {t : ℤ} (r : WeightAnswer) (n : ℕ) → weightNumber k w t ≡ suc n → weightAnswered r ≡ suc n → weightGiven r ≡ 0 → WeightMet k w t r
 declined {k} {w} {t} r n e f g =
     record {
-      number = f ∙ sym e;
-      weight = rw (e, eqb·suc-zero n) g;
+      answers = f ∙ sym e;
+      gives = rw (e, eqb·suc-zero n) g;
       floored = rw e (λ z. absurd (omega arith));
       least = rw e (λ z. absurd (omega arith));
       most = rw e (λ z. absurd (omega arith));
@@ -59,8 +59,8 @@ returns-3 c =
     let e = simp (toZ-ofZ (q .fits .t)) at (c .weight-at .ensures) in
     let known = whole-table (q .args .profile) (q .args .weekday) (q .args .t) profile (omega arith) range in
     record {
-      number = simp (lt-leb _ _ profile, le-ltb _ _ weekday, range);
-      weight = simp (lt-leb _ _ profile, le-ltb _ _ weekday, range) e;
+      answers = simp (lt-leb _ _ profile, le-ltb _ _ weekday, range);
+      gives = simp (lt-leb _ _ profile, le-ltb _ _ weekday, range) e;
       floored = λ z. rw e (known .0);
       least = λ z. rw e (known .1);
       most = λ z. rw e (known .2);

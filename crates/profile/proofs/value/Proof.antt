@@ -17,10 +17,10 @@ returns : tie.Need-returns
 returns c =
     let test = le-leb _ _ (c .if1 .taken) in
     record {
-      number = simp test;
+      answers = simp test;
       low = simp test;
       high = simp test;
-      encloses = simp test (λ e. absurd (omega arith));
+      powers-enclose = simp test (λ e. absurd (omega arith));
     }
 
 in-range-requires : tie.Need-in-range-requires
@@ -46,10 +46,10 @@ returns-2 c =
     let range = sym (inside (c .before .before .before)) ∙ c .before .before .if2 .taken in
     let v = simp (toZ-ofZ (q .fits .t)) at (c .before .values-at .ensures) in
     record {
-      number = simp (test, range);
+      answers = simp (test, range);
       low = simp (test, range, v .low-is) (toZ-ofZ (low-fits k t known range));
       high = simp (test, range, v .high-is) (toZ-ofZ (high-fits k t known range));
-      encloses = λ e. enclosed (profileOf k) t range;
+      powers-enclose = λ e. enclosed (profileOf k) t range;
     }
 
 -- row 4
@@ -58,10 +58,10 @@ returns-3 c =
     let test = lt-leb _ _ (c .before .before .if1 .left) in
     let range = sym (inside (c .before)) ∙ c .if2 .left in
     record {
-      number = simp (test, range);
+      answers = simp (test, range);
       low = simp (test, range);
       high = simp (test, range);
-      encloses = simp (test, range) (λ e. absurd (omega arith));
+      powers-enclose = simp (test, range) (λ e. absurd (omega arith));
     }
 
 pub value-spec : {M : Type 1} → statement M

@@ -51,7 +51,7 @@ same-length-4 c = search needs
 
 returns : tie.Need-returns
 returns c =
-    (text-met _ _ _ _ _ _ _ (c .before .before .days-text .ensures) (taken-says _ _ _ _ (days-met (c .before .before .before .before .before .before .before .before))) (c .before .before .before .before .before .before .before .before .before .before .before .before .before .before .before .before .read-case .ensures .fills), refl)
+    (text-met _ _ _ _ _ _ _ (c .before .before .days-text .ensures) (taken-says _ _ _ _ (days-met (c .before .before .before .before .before .before .before .before))) (c .before .before .before .before .before .before .before .before .before .before .before .before .before .before .before .before .read-case .ensures .writes), refl)
 
 same-length-5 : tie.Need-same-length-5
 same-length-5 c = search needs
@@ -72,7 +72,7 @@ returns-2 c =
     let f = filled (c .before .before .before .before .before .before .before .before .before .before .before .before .before) in
     let m : ReadMet s a (Refused (c .before .before .before .before .before .answer2 .given .0 .0) (c .before .before .before .before .before .answer2 .given .0 .1 .0)) f s =
     subst (λ (x : CaseAnswer). ReadMet s a x f s) (c .before .before .before .before .before .answer2 .given .1) (c .before .before .before .before .before .before .before .before .before .before .before .before .before .read-case .ensures) in
-    (text-met _ _ _ _ _ _ _ (c .before .before .refusal-text .ensures) (refused-says _ _ _ _ _ m) (m .fills), refl)
+    (text-met _ _ _ _ _ _ _ (c .before .before .refusal-text .ensures) (refused-says _ _ _ _ _ m) (m .writes), refl)
 
 pub case-text-spec : {M : Type 1} → statement M
 case-text-spec =

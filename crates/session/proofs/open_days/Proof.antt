@@ -29,7 +29,7 @@ returns c =
     let a = c .before .before .before .before .before .before .before .before .before .args in
     let b = account (a .weights .now) (a .marks .now) (a .counts .now) in
     let ms = meansIn (a .line .now) in
-    let three = unspanned (a .profile) (a .weekday) ms (replicate (length ms - 3) 0) (too-long (length ms - 3) (omega (arith, c .before .before .before .means2 .ensures .counts))) in
+    let three = unspanned (a .profile) (a .weekday) ms (replicate (length ms - 3) 0) (too-long (length ms - 3) (omega (arith, c .before .before .before .means2 .ensures .how-many))) in
     offer-refused (daysOffer (a .profile) (a .weekday) (a .line .now)) b (c .refused .result) (λ e. omega (arith, sym (three .0) ∙ e))
     (c .refused .ensures .0 ∙ sym (three .0)) (c .refused .ensures .1 ∙ sym (three .1)) (c .refused .ensures .2)
 

@@ -23,7 +23,7 @@ returns c =
     let a = c .before .before .before .before .before .before .before .before .before .args in
     let ws = weightsIn (a .line .now) in
     let b = account (a .weights .now) (a .marks .now) (a .counts .now) in
-    let three : opensNumber ws b ≡ 3 = too-many ws b (omega (arith, c .before .if1 .taken, c .before .before .before .weights .ensures .counts)) in
+    let three : opensNumber ws b ≡ 3 = too-many ws b (omega (arith, c .before .if1 .taken, c .before .before .before .weights .ensures .how-many)) in
     refused-met (weightsOffer (a .line .now)) b (c .refused .result) (c .refused .ensures .0 ∙ sym three) (λ e. omega (arith, sym three ∙ e)) (c .refused .ensures .1) (c .refused .ensures .2)
 
 slice-aggregate-over : tie.Need-slice-aggregate-over

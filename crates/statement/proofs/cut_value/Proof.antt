@@ -17,7 +17,7 @@ unfolding shareOf
 add-result c =
     let a = c .before .args in
     let pre = c .before .pre in
-    omega (arith, share-most (a .e) (a .zk) (a .z) (pre .some) (pre .share), c .nearest-of .ensures)
+    omega (arith, share-most (a .e) (a .zk) (a .z) (pre .positive) (pre .share), c .nearest-of .ensures)
 
 returns : tie.Need-returns
 unfolding shareOf

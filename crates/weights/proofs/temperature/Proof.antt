@@ -37,7 +37,7 @@ in-range-requires c κs = search needs
 returns : tie.Need-returns
 returns c =
     let a = out (c .before .before .fits .a) (c .before .in-range .ensures) (c .if1 .taken) in
-    record { number-is = simp a; place-is = simp a; value-is = simp a }
+    record { answers = simp a; places = simp a; gives = simp a }
 
 in-range-requires-2 : tie.Need-in-range-requires-2
 in-range-requires-2 c κs = search needs
@@ -46,7 +46,7 @@ returns-2 : tie.Need-returns-2
 returns-2 c =
     let a = a-in (c .before .before) in
     let b = out (c .before .before .before .before .fits .b) (c .before .in-range2 .ensures) (c .if2 .taken) in
-    record { number-is = simp (a, b); place-is = simp (a, b); value-is = simp (a, b) }
+    record { answers = simp (a, b); places = simp (a, b); gives = simp (a, b) }
 
 in-range-requires-3 : tie.Need-in-range-requires-3
 in-range-requires-3 c κs = search needs
@@ -56,7 +56,7 @@ returns-3 c =
     let a = a-in (c .before .before .before .before) in
     let b = b-in (c .before .before) in
     let c′ = out (c .before .before .before .before .before .before .fits .c) (c .before .in-range3 .ensures) (c .if3 .taken) in
-    record { number-is = simp (a, b, c′); place-is = simp (a, b, c′); value-is = simp (a, b, c′) }
+    record { answers = simp (a, b, c′); places = simp (a, b, c′); gives = simp (a, b, c′) }
 
 in-range-requires-4 : tie.Need-in-range-requires-4
 in-range-requires-4 c κs = search needs
@@ -67,7 +67,7 @@ returns-4 c =
     let b = b-in (c .before .before .before .before) in
     let c′ = c-in (c .before .before) in
     let d = out (c .before .before .before .before .before .before .before .before .fits .d) (c .before .in-range4 .ensures) (c .if4 .taken) in
-    record { number-is = simp (a, b, c′, d); place-is = simp (a, b, c′, d); value-is = simp (a, b, c′, d) }
+    record { answers = simp (a, b, c′, d); places = simp (a, b, c′, d); gives = simp (a, b, c′, d) }
 
 of-four-requires : tie.Need-of-four-requires
 of-four-requires c κs =
@@ -84,7 +84,7 @@ returns-5 c =
     let d = d-in (c .before) in
     let value = toZ-ofZ {w = w16} (sfits-of (c .of-four .ok))
     ∙ rw (toZ-ofZ (f .a), toZ-ofZ (f .b), toZ-ofZ (f .c), toZ-ofZ (f .d)) at (c .of-four .ensures) in
-    record { number-is = simp (a, b, c′, d); place-is = simp (a, b, c′, d); value-is = simp (a, b, c′, d) value }
+    record { answers = simp (a, b, c′, d); places = simp (a, b, c′, d); gives = simp (a, b, c′, d) value }
 
 pub temperature-spec : {M : Type 1} → statement M
 temperature-spec =

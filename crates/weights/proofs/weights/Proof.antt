@@ -17,7 +17,7 @@ ready : (c : tie.Else6) → let a = c .before .before .before .before .before .b
 ready c =
     let m = c .before .before .before .before .before .before .before .before .args .means .now in
     let e = c .before .first-out .ensures in
-    record { profiled = omega arith; dated = omega arith; measured = le-ltb (firstOut m) (length m) (omega arith) }
+    record { profile-known = omega arith; weekday-known = omega arith; means-in-range = le-ltb (firstOut m) (length m) (omega arith) }
 
 returns : tie.Need-returns
 returns c =

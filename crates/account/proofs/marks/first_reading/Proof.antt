@@ -5,14 +5,14 @@ use native.Mathlib.Omega.{arith}
 use mathlib.Core.Path.{_≡_, sym, _∙_}
 use mathlib.Core.Bool.{false}
 use lib.ListN.{length, getD}
-use Rattle.account.specs.Below.{some}
+use Rattle.account.specs.Below.{somewhere}
 use Rattle.account.specs.Account.{marksReading}
 use Rattle.account.proofs.Below.{some-zero, some-none, first-at, first-none}
 use Rattle.account.proofs.marks.first_reading.Statement.{statement}
 use Rattle.account.proofs.marks.first_reading.Tie as tie
 
 abbrev Inv-loop : tie.InvT-loop
-Inv-loop marks k₀ k = (k ≤ length marks) × (some (λ j. marksReading (getD marks j 0)) k ≡ false)
+Inv-loop marks k₀ k = (k ≤ length marks) × (somewhere (λ j. marksReading (getD marks j 0)) k ≡ false)
 
 abbrev μ-loop : tie.MeasureT-loop
 μ-loop marks k₀ k = length marks - k

@@ -6,7 +6,7 @@ use mathlib.Core.Path.{_≡_, refl, sym, _∙_}
 use mathlib.Core.Bool.{Bool, true, false, _&&_, _||_, or-true}
 use lib.Dec.{ltb}
 use lib.ListN.{length}
-use Rattle.account.specs.Below.{some}
+use Rattle.account.specs.Below.{somewhere}
 use Rattle.account.specs.Stands.{Readings}
 use Rattle.account.specs.Account.{account, shown}
 use Rattle.account.specs.Refusals.{outOfOrder}
@@ -22,8 +22,8 @@ later r k v j = ltb k j && (r .at j && ltb (r .count j) v)
 
 -- none of the boundaries below j disagrees
 record Agree (r : Readings) (k v j : ℕ) : Type 0 where
-  low : some (earlier r k v) j ≡ false
-  high : some (later r k v) j ≡ false
+  low : somewhere (earlier r k v) j ≡ false
+  high : somewhere (later r k v) j ≡ false
 
 module _ (r : Readings) (k v : ℕ) where
   agree-none : Agree r k v 0
@@ -41,9 +41,9 @@ module _ (r : Readings) (k v : ℕ) where
   unfolding outOfOrder
   found n j l e = go (earlier r k v j) (later r k v j) refl refl e
     where
-      go : (x y : Bool) → earlier r k v j ≡ x → later r k v j ≡ y → x || y ≡ true → true ≡ (some (earlier r k v) (suc n) || some (later r k v) (suc n))
+      go : (x y : Bool) → earlier r k v j ≡ x → later r k v j ≡ y → x || y ≡ true → true ≡ (somewhere (earlier r k v) (suc n) || somewhere (later r k v) (suc n))
       go true y f g e = rw (some-at (earlier r k v) (suc n) j l f)
-      go false true f g e = rw (some-at (later r k v) (suc n) j l g) (sym (or-true (some (earlier r k v) (suc n))))
+      go false true f g e = rw (some-at (later r k v) (suc n) j l g) (sym (or-true (somewhere (earlier r k v) (suc n))))
       go false false f g e = cc
 
 abbrev Inv-loop : tie.InvT-loop

@@ -41,13 +41,13 @@ use denote.Triple.Walked.{says, needs, Stays, stay-none, gave-slice, walkOf, goe
 use denote.Exit.{yes}
 use denote.Triple.Clauses.{ensured, lasts}
 use Rattle.casefile.specs.Faults.{faultOf}
-use Rattle.casefile.specs.Sections.{CutsFrom, Closed}
+use Rattle.casefile.specs.Sections.{CutsFrom, CutsMet}
 use Rattle.casefile.specs.declared.reader.Reader.{Reader}
-use Rattle.casefile.specs.declared.sections.Progress.{Progress}
+use Rattle.casefile.specs.declared.sections.SectionEnd.{SectionEnd}
 use Rattle.casefile.proofs.reader.Reader as T
 use Rattle.casefile.proofs.reader.Reader.Laws as T′
-use Rattle.casefile.proofs.sections.Progress as P
-use Rattle.casefile.proofs.sections.Progress.Laws as P′
+use Rattle.casefile.proofs.sections.SectionEnd as P
+use Rattle.casefile.proofs.sections.SectionEnd.Laws as P′
 use Rattle.casefile.proofs.Held.{file-out}
 use Rattle.casefile.proofs.cuts.cuts_at as callee
 use Rattle.casefile.proofs.cuts.cuts_at.Symbol as callee-def
@@ -76,7 +76,7 @@ module _ {M : Type 1} (𝓤 : URA M) (H : Heap 𝓤) (A : Atoms 𝓤) (mem : Mem
   abbrev CutsAt : Contract 𝓤
   CutsAt = tripleOf 𝓤 H A callee.signature (callee.spec 𝓤 H A mem run)
 
-module _ {M : Type 1} (𝓤 : URA M) (H : Heap 𝓤) (A : Atoms 𝓤) (W : Given 𝓤 H A) (mem : Memory → SProp 𝓤) (run : Routine → Fun 𝓤) (κ κ′ : Lft) (q q′ : Share) (d : Reader) (p : Progress) (bm om : ℕ) (γm : GName) (ms : List ℕ) where
+module _ {M : Type 1} (𝓤 : URA M) (H : Heap 𝓤) (A : Atoms 𝓤) (W : Given 𝓤 H A) (mem : Memory → SProp 𝓤) (run : Routine → Fun 𝓤) (κ κ′ : Lft) (q q′ : Share) (d : Reader) (p : SectionEnd) (bm om : ℕ) (γm : GName) (ms : List ℕ) where
   abbrev κs : Lfts 2
   κs = (κ, (κ′, tt))
 
@@ -99,8 +99,8 @@ module _ {M : Type 1} (𝓤 : URA M) (H : Heap 𝓤) (A : Atoms 𝓤) (W : Given
   abbrev Asked : Type 0
   Asked = CutsFrom (now (d .file)) (d .at) p ms
 
-  abbrev Met : Progress → List ℕ → Type 0
-  Met r zm = Closed (now (d .file)) (faultOf (now (d .file))) r zm
+  abbrev Met : SectionEnd → List ℕ → Type 0
+  Met r zm = CutsMet (now (d .file)) (faultOf (now (d .file))) r zm
 
   abbrev Post : Val → SProp 𝓤
   Post = walkOf 𝓤 H A self.ended stayed (self.clauses 𝓤 H A mem run) .post ((κs, (q, (q′, tt)), tt, (d, (p, (xm, tt))), (mach ∷ [], (pmach ∷ [], (sm ∷ [], tt)))), tt)
@@ -131,7 +131,7 @@ module _ {M : Type 1} (𝓤 : URA M) (H : Heap 𝓤) (A : Atoms 𝓤) (W : Given
       move ! (2 ∷ 0 ∷ []) $ use2 W (raw (CutsAt 𝓤 H A mem run .pre to)) (asked φ) $ frame ! $ done !
 
   module _ (isp : Is P.the-row p (pmach ∷ [])) where
-    exits : (r : Progress) (u : Val) (zm : List ℕ) → Met r zm → length zm ≡ length ms
+    exits : (r : SectionEnd) (u : Val) (zm : List ℕ) → Met r zm → length zm ≡ length ms
         → ent 𝓤 (⋆ 𝓤 H A ((‵ (flft κ q) ⊛ ‵ (flft κ′ q′) ⊛ ‵ ftrue) ∷ ‵ (finally u8 γm zm) ∷ ‵ (P.the-row .own r (u ∷ [])) ∷ ‵ Own ∷ [])) (Post u)
     exits r u zm e lm =
         qed W ((‵ (flft κ q) ⊛ ‵ (flft κ′ q′) ⊛ ‵ ftrue) ∷ ‵ (finally u8 γm zm) ∷ ‵ (P.the-row .own r (u ∷ [])) ∷ ‵ Own ∷ []) ∵
@@ -151,7 +151,7 @@ module _ {M : Type 1} (𝓤 : URA M) (H : Heap 𝓤) (A : Atoms 𝓤) (W : Given
           assigns ! (agg ! (and-then ! (load ! (from ! (stop !)) (look ! 2 refl)) (and-then ! (load ! (from ! (fld ! refl (stop !))) (look-in ! 8 (sub ! 1 refl (whole !)))) (no-more !)))) (from ! (stop !)) (init ! 0 refl (tt, (tt, (record { fits = roomm .0 }, tt)))) $
           move ! (16 ∷ []) $ use1 W (raw (CutsAt 𝓤 H A mem run .pre to) ⊛ ‵ Own) (apart φ (wt .1 .1 .0 .fits)) $ split ! $
           calls-at ! fm (CutsAt 𝓤 H A mem run) known to (and-then ! (load ! (from ! (stop !)) (look ! 8 refl)) (and-then ! (load ! (from ! (stop !)) (look ! 6 refl)) (and-then ! (load ! (from ! (stop !)) (look ! 12 refl)) (and-then ! (load ! (from ! (stop !)) (look ! 2 refl)) (no-more !))))) (λ u.
-          use1 W (later (some (λ (r : Progress). ((‵ (flft κ q) ⊛ ‵ (flft κ′ q′) ⊛ ‵ ftrue) ⊛ ‵ (P.the-row .own r (u ∷ []))) ⊛ raw (ensured 𝓤 H A callee.ended (callee.clauses 𝓤 H A mem run) κs (d .file, (d .at, (p, (xm, tt)))) tt r)))) (id⊢ 𝓤 _) $ await ! tt $ pick ! (λ r.
+          use1 W (later (some (λ (r : SectionEnd). ((‵ (flft κ q) ⊛ ‵ (flft κ′ q′) ⊛ ‵ ftrue) ⊛ ‵ (P.the-row .own r (u ∷ []))) ⊛ raw (ensured 𝓤 H A callee.ended (callee.clauses 𝓤 H A mem run) κs (d .file, (d .at, (p, (xm, tt)))) tt r)))) (id⊢ 𝓤 _) $ await ! tt $ pick ! (λ r.
           -- what `cuts_at` ensures, at some last lists
           split ! $ move ! (1 ∷ []) $ use1 W (some (λ (zs : Unit {0} × (Unit {0} × (Unit {0} × (List ℕ × Unit {0})))). ‵ (lasts callee.ended κs (d .file, (d .at, (p, (xm, tt)))) zs) ⊛ raw (fact 𝓤 (Met r (zs .1 .1 .1 .0))))) (id⊢ 𝓤 _) $ pick ! (λ zs.
           split ! $ move ! (1 ∷ []) $ heard ! (Met r (zs .1 .1 .1 .0)) (λ e. fsplit ! $ drop ! $ fsplit ! $ drop ! $ fsplit ! $ drop ! $ fsplit ! $ fsplit ! $ move ! (1 ∷ []) $ feqL ! (λ lm.

@@ -42,15 +42,15 @@ use denote.Exit.{yes}
 use denote.Triple.Clauses.{ensured, lasts}
 use Rattle.account.specs.Account.{account}
 use Rattle.casefile.specs.Faults.{faultOf}
-use Rattle.casefile.specs.Sections.{filedFault, AllClear, SpanMet, ReadingsFrom, Filed, CutsFrom, Closed, FillMet}
+use Rattle.casefile.specs.Sections.{filedFault, AllClear, SpanMet, ReadingsFrom, ReadingsMet, CutsFrom, CutsMet, FillMet}
 use Rattle.casefile.specs.declared.reader.Reader.{Reader}
-use Rattle.casefile.specs.declared.sections.Progress.{Progress}
+use Rattle.casefile.specs.declared.sections.SectionEnd.{SectionEnd}
 use Rattle.casefile.proofs.Again.{LentAgain, lends-again, comes-back}
 use Rattle.casefile.proofs.Chained.{filled-case}
 use Rattle.casefile.proofs.reader.Reader as T
 use Rattle.casefile.proofs.reader.Reader.Laws as T′
-use Rattle.casefile.proofs.sections.Progress as P
-use Rattle.casefile.proofs.sections.Progress.Laws as P′
+use Rattle.casefile.proofs.sections.SectionEnd as P
+use Rattle.casefile.proofs.sections.SectionEnd.Laws as P′
 use Rattle.casefile.proofs.reader.new as new
 use Rattle.casefile.proofs.reader.new.Symbol as new-def
 use Rattle.casefile.proofs.reader.new.Symbol.{name as #new}
@@ -144,13 +144,13 @@ module _ {M : Type 1} (𝓤 : URA M) (H : Heap 𝓤) (A : Atoms 𝓤) (W : Given
   typed : (d : Reader) (w : Val) → Is Row d (w ∷ []) → Holds (hasTy (T′.mir erased) w) × WT w
   typed d w is = LL.lawful (T.the-type αᵉ) (T′.the-laws αᵉ) 𝓤 H A W .typed d _ is .0
 
-  lower : (p : Progress) (u : Val) → Is P.the-row p (u ∷ []) → u ≡ P′.lowered p
+  lower : (p : SectionEnd) (u : Val) → Is P.the-row p (u ∷ []) → u ≡ P′.lowered p
   lower p u is = ap only (LL.tells P.the-type P′.the-laws p _ is)
 
-  is-lowered : (p : Progress) (u : Val) → Is P.the-row p (u ∷ []) → Is P.the-row p (P′.lowered p ∷ [])
+  is-lowered : (p : SectionEnd) (u : Val) → Is P.the-row p (u ∷ []) → Is P.the-row p (P′.lowered p ∷ [])
   is-lowered p u is = subst (λ (z : Val). Is P.the-row p (z ∷ [])) (lower p u is) is
 
-  next-fits : (p : Progress) (u : Val) → Is P.the-row p (u ∷ []) → p .next < 2 ^ 64
+  next-fits : (p : SectionEnd) (u : Val) → Is P.the-row p (u ∷ []) → p .next < 2 ^ 64
   next-fits p u is = LL.owed P.the-type P′.the-laws p _ is .1 .1 .1 .0 .1
 
   -- what each callee's triple binds outside, and that the caller has what it asks
@@ -183,10 +183,10 @@ module _ {M : Type 1} (𝓤 : URA M) (H : Heap 𝓤) (A : Atoms 𝓤) (W : Given
       qed W (‵ (flft κ q) ∷ ‵ (flft κ₁ q₁) ∷ ‵ (Row .own (at 0) (w ∷ [])) ∷ ‵ (MutSlice (named 1) κ₁ u32 .own x₁ (s₁ ∷ [])) ∷ []) ∵ says ! (refl, φ .weights) $
       nothing ! $ move ! (2 ∷ 0 ∷ []) $ join ! $ move ! (1 ∷ 0 ∷ []) $ join ! $ frame ! $ nothing ! $ move ! (2 ∷ 0 ∷ []) $ fjoin ! $ move ! (1 ∷ 0 ∷ []) $ fjoin ! $ done !
 
-  abbrev to-readings : Val → Progress → ℕ → GName → Readings 𝓤 H A mem run .Ghost
+  abbrev to-readings : Val → SectionEnd → ℕ → GName → Readings 𝓤 H A mem run .Ghost
   to-readings w p ν δ = (((κ, (ν ∷ [], (κ₃, tt))), (q, (fullShare, (q₃, tt))), tt, (at (p .next), (p, (x₂ δ ms, (x₃, tt)))), (w ∷ [], (P′.lowered p ∷ [], (s₂ ∷ [], (s₃ ∷ [], tt))))), tt)
 
-  goes-readings : (w : Val) (p : Progress) (ν : ℕ) (δ : GName) → Is P.the-row p (P′.lowered p ∷ []) → ReadingsFrom (now xf) (p .next) p ms cs
+  goes-readings : (w : Val) (p : SectionEnd) (ν : ℕ) (δ : GName) → Is P.the-row p (P′.lowered p ∷ []) → ReadingsFrom (now xf) (p .next) p ms cs
       → ent 𝓤 (⋆ 𝓤 H A (‵ (flft κ q) ∷ ‵ (flft (ν ∷ []) fullShare) ∷ ‵ (flft κ₃ q₃) ∷ ‵ (Row .own (at (p .next)) (w ∷ [])) ∷ ‵ (MutSlice (named 1) (ν ∷ []) u8 .own (x₂ δ ms) (s₂ ∷ [])) ∷ ‵ (MutSlice (named 3) κ₃ u64 .own x₃ (s₃ ∷ [])) ∷ []))
       (Readings 𝓤 H A mem run .pre (to-readings w p ν δ))
   goes-readings w p ν δ isp ask =
@@ -194,16 +194,16 @@ module _ {M : Type 1} (𝓤 : URA M) (H : Heap 𝓤) (A : Atoms 𝓤) (W : Given
       nothing ! $ move ! (3 ∷ 0 ∷ []) $ join ! $ move ! (2 ∷ 0 ∷ []) $ join ! $ move ! (1 ∷ 0 ∷ []) $ join ! $ frame ! $
       nothing ! $ move ! (3 ∷ 0 ∷ []) $ fjoin ! $ move ! (2 ∷ 0 ∷ []) $ fjoin ! $ owned ! P.the-row (Is P.the-row) (LL.makes P.the-type P′.the-plain 𝓤 H A) p _ isp $ fjoin ! $ move ! (1 ∷ 0 ∷ []) $ fjoin ! $ done !
 
-  abbrev to-cuts : Val → Progress → List ℕ → Cuts 𝓤 H A mem run .Ghost
+  abbrev to-cuts : Val → SectionEnd → List ℕ → Cuts 𝓤 H A mem run .Ghost
   to-cuts w p l = (((κ, (κ₂, tt)), (q, (q₂, tt)), tt, (at (p .next), (p, (x₂ γ₂ l, tt))), (w ∷ [], (P′.lowered p ∷ [], (s₂ ∷ [], tt)))), tt)
 
-  goes-cuts : (w : Val) (p : Progress) (l : List ℕ) → Is P.the-row p (P′.lowered p ∷ []) → CutsFrom (now xf) (p .next) p l
+  goes-cuts : (w : Val) (p : SectionEnd) (l : List ℕ) → Is P.the-row p (P′.lowered p ∷ []) → CutsFrom (now xf) (p .next) p l
       → ent 𝓤 (⋆ 𝓤 H A (‵ (flft κ q) ∷ ‵ (flft κ₂ q₂) ∷ ‵ (Row .own (at (p .next)) (w ∷ [])) ∷ ‵ (MutSlice (named 2) κ₂ u8 .own (x₂ γ₂ l) (s₂ ∷ [])) ∷ [])) (Cuts 𝓤 H A mem run .pre (to-cuts w p l))
   goes-cuts w p l isp ask =
       qed W (‵ (flft κ q) ∷ ‵ (flft κ₂ q₂) ∷ ‵ (Row .own (at (p .next)) (w ∷ [])) ∷ ‵ (MutSlice (named 2) κ₂ u8 .own (x₂ γ₂ l) (s₂ ∷ [])) ∷ []) ∵ says ! ask $
       nothing ! $ move ! (2 ∷ 0 ∷ []) $ join ! $ move ! (1 ∷ 0 ∷ []) $ join ! $ frame ! $ nothing ! $ move ! (2 ∷ 0 ∷ []) $ fjoin ! $ owned ! P.the-row (Is P.the-row) (LL.makes P.the-type P′.the-plain 𝓤 H A) p _ isp $ fjoin ! $ move ! (1 ∷ 0 ∷ []) $ fjoin ! $ done !
 
-  exits : (p : Progress) (u : Val) (zw zm zc : List ℕ) → FillMet (now xf) p (account zw zm zc) → length zw ≡ length ws → length zm ≡ length ms → length zc ≡ length cs → ent 𝓤 (⋆ 𝓤 H A (‵ (flft κ q) ∷ ‵ (flft κ₁ q₁) ∷ ‵ (flft κ₂ q₂) ∷ ‵ (flft κ₃ q₃) ∷ ‵ FileOwn ∷ ‵ (finally u32 γ₁ zw) ∷ ‵ (finally u8 γ₂ zm) ∷ ‵ (finally u64 γ₃ zc) ∷ ‵ (P.the-row .own p (u ∷ [])) ∷ [])) (Post u)
+  exits : (p : SectionEnd) (u : Val) (zw zm zc : List ℕ) → FillMet (now xf) p (account zw zm zc) → length zw ≡ length ws → length zm ≡ length ms → length zc ≡ length cs → ent 𝓤 (⋆ 𝓤 H A (‵ (flft κ q) ∷ ‵ (flft κ₁ q₁) ∷ ‵ (flft κ₂ q₂) ∷ ‵ (flft κ₃ q₃) ∷ ‵ FileOwn ∷ ‵ (finally u32 γ₁ zw) ∷ ‵ (finally u8 γ₂ zm) ∷ ‵ (finally u64 γ₃ zc) ∷ ‵ (P.the-row .own p (u ∷ [])) ∷ [])) (Post u)
   exits p u zw zm zc e lw lm lc =
       qed W (‵ (flft κ q) ∷ ‵ (flft κ₁ q₁) ∷ ‵ (flft κ₂ q₂) ∷ ‵ (flft κ₃ q₃) ∷ ‵ FileOwn ∷ ‵ (finally u32 γ₁ zw) ∷ ‵ (finally u8 γ₂ zm) ∷ ‵ (finally u64 γ₃ zc) ∷ ‵ (P.the-row .own p (u ∷ [])) ∷ []) ∵
       suffices ! _ (ends-at 𝓤 H A self.ended stayed (self.clauses 𝓤 H A mem run) W (((κ, (κ₁, (κ₂, (κ₃, tt)))), (q, (q₁, (q₂, (q₃, tt)))), tt, (xf, (x₁, (x₂ γ₂ ms, (x₃, tt)))), (sf ∷ [], (s₁ ∷ [], (s₂ ∷ [], (s₃ ∷ [], tt))))), tt) u p (tt, (zw, (zm, (zc, tt)))) (tt, (lw, (lm, (lc, tt))))) $ says ! e $
@@ -229,7 +229,7 @@ module _ {M : Type 1} (𝓤 : URA M) (H : Heap 𝓤) (A : Atoms 𝓤) (W : Given
         assigns ! (agg ! (and-then ! (load ! (from ! (stop !)) (look ! 31 refl)) (and-then ! (load ! (from ! (fld ! refl (stop !))) (look-in ! 49 (sub ! 1 refl (whole !)))) (no-more !)))) (from ! (stop !)) (init ! 29 refl (tt, (tt, (record { fits = room₁ .0 }, tt)))) $
         use1 W (‵ (Row .own (at 0) (w₀ ∷ [])) ⊛ ‵ (Row .own (at 0) (w₀ ∷ []))) (LL.copy (T.the-type α) (T′.the-copy α) 𝓤 H A W .twice (at 0) (w₀ ∷ [])) $ split ! $ move ! (2 ∷ 9 ∷ 0 ∷ 6 ∷ []) $ group ! 4 $ use1 W (raw (Span 𝓤 H A mem run .pre (to-span w₀))) (goes-span w₀) $
         calls-at ! fm (Span 𝓤 H A mem run) known-span (to-span w₀) (and-then ! (load ! (from ! (stop !)) (look ! 31 refl)) (and-then ! (load ! (from ! (stop !)) (look ! 27 refl)) (no-more !))) (λ u₁.
-        use1 W (later (some (λ (r : Progress). ((‵ (flft κ q) ⊛ ‵ (flft κ₁ q₁) ⊛ ‵ ftrue) ⊛ ‵ (P.the-row .own r (u₁ ∷ []))) ⊛ raw (ensured 𝓤 H A span.ended (span.clauses 𝓤 H A mem run) (κ, (κ₁, tt)) (at 0, (x₁, tt)) tt r)))) (id⊢ 𝓤 _) $ await ! tt $ pick ! (λ p₁. split ! $
+        use1 W (later (some (λ (r : SectionEnd). ((‵ (flft κ q) ⊛ ‵ (flft κ₁ q₁) ⊛ ‵ ftrue) ⊛ ‵ (P.the-row .own r (u₁ ∷ []))) ⊛ raw (ensured 𝓤 H A span.ended (span.clauses 𝓤 H A mem run) (κ, (κ₁, tt)) (at 0, (x₁, tt)) tt r)))) (id⊢ 𝓤 _) $ await ! tt $ pick ! (λ p₁. split ! $
         move ! (1 ∷ []) $ use1 W (some (λ (zs : Unit {0} × (List ℕ × Unit {0})). ‵ (lasts span.ended (κ, (κ₁, tt)) (at 0, (x₁, tt)) zs) ⊛ raw (fact 𝓤 (SpanMet (now xf) p₁ (zs .1 .0))))) (id⊢ 𝓤 _) $ pick ! (λ zs₁. split ! $ move ! (1 ∷ []) $ heard ! (SpanMet (now xf) p₁ (zs₁ .1 .0)) (λ e₁. fsplit ! $ drop ! $ fsplit ! $ move ! (1 ∷ []) $ drop ! $ fsplit ! $ move ! (1 ∷ []) $ feqL ! (λ lw. move ! (1 ∷ []) $ split ! $ split ! $ move ! (1 ∷ []) $ split ! $ move ! (1 ∷ []) $ drop ! $
         move ! (2 ∷ []) $ peeks ! P.the-row (Is P.the-row) (shows 𝓤 H A P.the-row) p₁ (u₁ ∷ []) (λ isp₁. land ! (from ! (stop !)) (init ! 42 refl (LL.lawful P.the-type P′.the-laws 𝓤 H A W .typed p₁ _ isp₁ .0)) $ drop ! $ rewrite ! 41 (λ (u : Val). ‵ (fat fullShare P′.mir l₆ 0 u)) (lower p₁ u₁ isp₁) refl $
         -- `moved`, to the readings
@@ -247,8 +247,8 @@ module _ {M : Type 1} (𝓤 : URA M) (H : Heap 𝓤) (A : Atoms 𝓤) (W : Given
         move ! (8 ∷ 10 ∷ []) $ use2 W (later (some (λ (δ : GName). ‵ (MutSlice (named 1) (ν ∷ []) u8 .own (x₂ δ ms) (s₂ ∷ [])) ⊛ ‵ (LentAgain u8 κ₂ (ν ∷ []) q₂ γ₂ b₂ o₂ δ ms)))) (lends-again u8 κ₂ (ν ∷ []) q₂ γ₂ b₂ o₂ 𝓤 H A W (named 2) (named 1) ms) $ await ! tt $ pick ! (λ δ. split ! $
         move ! (5 ∷ 2 ∷ 10 ∷ 3 ∷ 0 ∷ 9 ∷ []) $ group ! 6 $ use1 W (raw (Readings 𝓤 H A mem run .pre (to-readings w₁ p₁ ν δ))) (goes-readings w₁ p₁ ν δ (is-lowered p₁ u₁ isp₁) (record { reached = e₁ .reached; follows = refl; marks-clear = φ .marks; counts-clear = φ .counts })) $
         calls-at ! fm (Readings 𝓤 H A mem run) known-readings (to-readings w₁ p₁ ν δ) (and-then ! (load ! (from ! (stop !)) (look ! 22 refl)) (and-then ! (load ! (from ! (stop !)) (look ! 38 refl)) (and-then ! (load ! (from ! (stop !)) (look ! 18 refl)) (and-then ! (load ! (from ! (stop !)) (look ! 14 refl)) (no-more !))))) (λ u₂.
-        use1 W (later (some (λ (r : Progress). ((‵ (flft κ q) ⊛ ‵ (flft (ν ∷ []) fullShare) ⊛ ‵ (flft κ₃ q₃) ⊛ ‵ ftrue) ⊛ ‵ (P.the-row .own r (u₂ ∷ []))) ⊛ raw (ensured 𝓤 H A readings.ended (readings.clauses 𝓤 H A mem run) (κ, (ν ∷ [], (κ₃, tt))) (at (p₁ .next), (p₁, (x₂ δ ms, (x₃, tt)))) tt r)))) (id⊢ 𝓤 _) $ await ! tt $ pick ! (λ p₂. split ! $
-        move ! (1 ∷ []) $ use1 W (some (λ (zs : Unit {0} × (Unit {0} × (List ℕ × (List ℕ × Unit {0})))). ‵ (lasts readings.ended (κ, (ν ∷ [], (κ₃, tt))) (at (p₁ .next), (p₁, (x₂ δ ms, (x₃, tt)))) zs) ⊛ raw (fact 𝓤 (Filed (now xf) (filedFault (now xf)) p₂ (zs .1 .1 .0) (zs .1 .1 .1 .0))))) (id⊢ 𝓤 _) $ pick ! (λ zs₂. split ! $ move ! (1 ∷ []) $ heard ! (Filed (now xf) (filedFault (now xf)) p₂ (zs₂ .1 .1 .0) (zs₂ .1 .1 .1 .0)) (λ e₂.
+        use1 W (later (some (λ (r : SectionEnd). ((‵ (flft κ q) ⊛ ‵ (flft (ν ∷ []) fullShare) ⊛ ‵ (flft κ₃ q₃) ⊛ ‵ ftrue) ⊛ ‵ (P.the-row .own r (u₂ ∷ []))) ⊛ raw (ensured 𝓤 H A readings.ended (readings.clauses 𝓤 H A mem run) (κ, (ν ∷ [], (κ₃, tt))) (at (p₁ .next), (p₁, (x₂ δ ms, (x₃, tt)))) tt r)))) (id⊢ 𝓤 _) $ await ! tt $ pick ! (λ p₂. split ! $
+        move ! (1 ∷ []) $ use1 W (some (λ (zs : Unit {0} × (Unit {0} × (List ℕ × (List ℕ × Unit {0})))). ‵ (lasts readings.ended (κ, (ν ∷ [], (κ₃, tt))) (at (p₁ .next), (p₁, (x₂ δ ms, (x₃, tt)))) zs) ⊛ raw (fact 𝓤 (ReadingsMet (now xf) (filedFault (now xf)) p₂ (zs .1 .1 .0) (zs .1 .1 .1 .0))))) (id⊢ 𝓤 _) $ pick ! (λ zs₂. split ! $ move ! (1 ∷ []) $ heard ! (ReadingsMet (now xf) (filedFault (now xf)) p₂ (zs₂ .1 .1 .0) (zs₂ .1 .1 .1 .0)) (λ e₂.
         fsplit ! $ drop ! $ fsplit ! $ drop ! $ fsplit ! $ fsplit ! $ move ! (1 ∷ []) $ feqL ! (λ lm₁. move ! (1 ∷ []) $ fsplit ! $ move ! (1 ∷ []) $ drop ! $ fsplit ! $ move ! (1 ∷ []) $ feqL ! (λ lc.
         move ! (2 ∷ []) $ split ! $ split ! $ move ! (1 ∷ []) $ split ! $ move ! (1 ∷ []) $ split ! $ move ! (1 ∷ []) $ drop ! $
         move ! (3 ∷ []) $ peeks ! P.the-row (Is P.the-row) (shows 𝓤 H A P.the-row) p₂ (u₂ ∷ []) (λ isp₂. land ! (from ! (stop !)) (init ! 39 refl (LL.lawful P.the-type P′.the-laws 𝓤 H A W .typed p₂ _ isp₂ .0)) $ drop ! $ rewrite ! 38 (λ (u : Val). ‵ (fat fullShare P′.mir l₈ 0 u)) (lower p₂ u₂ isp₂) refl $
@@ -265,8 +265,8 @@ module _ {M : Type 1} (𝓤 : URA M) (H : Heap 𝓤) (A : Atoms 𝓤) (W : Given
         assigns ! (agg ! (and-then ! (load ! (from ! (stop !)) (look ! 11 refl)) (and-then ! (load ! (from ! (fld ! refl (stop !))) (look-in ! 47 (sub ! 1 refl (whole !)))) (no-more !)))) (from ! (stop !)) (init ! 9 refl (tt, (tt, (record { fits = room₂ .0 }, tt)))) $
         move ! (1 ∷ 3 ∷ 0 ∷ 2 ∷ []) $ group ! 4 $ use1 W (raw (Cuts 𝓤 H A mem run .pre (to-cuts w₂ p₂ (zs₂ .1 .1 .0)))) (goes-cuts w₂ p₂ (zs₂ .1 .1 .0) (is-lowered p₂ u₂ isp₂) (record { reached = e₂ .reached; follows = refl; marks-are = e₂ .marks-are; marks-long = lm₁ ∙ φ .marks .long })) $
         calls-at ! fm (Cuts 𝓤 H A mem run) known-cuts (to-cuts w₂ p₂ (zs₂ .1 .1 .0)) (and-then ! (load ! (from ! (stop !)) (look ! 10 refl)) (and-then ! (load ! (from ! (stop !)) (look ! 34 refl)) (and-then ! (load ! (from ! (stop !)) (look ! 6 refl)) (no-more !)))) (λ u₃.
-        use1 W (later (some (λ (r : Progress). ((‵ (flft κ q) ⊛ ‵ (flft κ₂ q₂) ⊛ ‵ ftrue) ⊛ ‵ (P.the-row .own r (u₃ ∷ []))) ⊛ raw (ensured 𝓤 H A cuts.ended (cuts.clauses 𝓤 H A mem run) (κ, (κ₂, tt)) (at (p₂ .next), (p₂, (x₂ γ₂ (zs₂ .1 .1 .0), tt))) tt r)))) (id⊢ 𝓤 _) $ await ! tt $ pick ! (λ p₃. split ! $
-        move ! (1 ∷ []) $ use1 W (some (λ (zs : Unit {0} × (Unit {0} × (List ℕ × Unit {0}))). ‵ (lasts cuts.ended (κ, (κ₂, tt)) (at (p₂ .next), (p₂, (x₂ γ₂ (zs₂ .1 .1 .0), tt))) zs) ⊛ raw (fact 𝓤 (Closed (now xf) (faultOf (now xf)) p₃ (zs .1 .1 .0))))) (id⊢ 𝓤 _) $ pick ! (λ zs₃. split ! $ move ! (1 ∷ []) $ heard ! (Closed (now xf) (faultOf (now xf)) p₃ (zs₃ .1 .1 .0)) (λ e₃.
+        use1 W (later (some (λ (r : SectionEnd). ((‵ (flft κ q) ⊛ ‵ (flft κ₂ q₂) ⊛ ‵ ftrue) ⊛ ‵ (P.the-row .own r (u₃ ∷ []))) ⊛ raw (ensured 𝓤 H A cuts.ended (cuts.clauses 𝓤 H A mem run) (κ, (κ₂, tt)) (at (p₂ .next), (p₂, (x₂ γ₂ (zs₂ .1 .1 .0), tt))) tt r)))) (id⊢ 𝓤 _) $ await ! tt $ pick ! (λ p₃. split ! $
+        move ! (1 ∷ []) $ use1 W (some (λ (zs : Unit {0} × (Unit {0} × (List ℕ × Unit {0}))). ‵ (lasts cuts.ended (κ, (κ₂, tt)) (at (p₂ .next), (p₂, (x₂ γ₂ (zs₂ .1 .1 .0), tt))) zs) ⊛ raw (fact 𝓤 (CutsMet (now xf) (faultOf (now xf)) p₃ (zs .1 .1 .0))))) (id⊢ 𝓤 _) $ pick ! (λ zs₃. split ! $ move ! (1 ∷ []) $ heard ! (CutsMet (now xf) (faultOf (now xf)) p₃ (zs₃ .1 .1 .0)) (λ e₃.
         fsplit ! $ drop ! $ fsplit ! $ drop ! $ fsplit ! $ move ! (1 ∷ []) $ drop ! $ fsplit ! $ move ! (1 ∷ []) $ feqL ! (λ lm₂.
         move ! (1 ∷ []) $ split ! $ split ! $ move ! (1 ∷ []) $ split ! $ move ! (1 ∷ []) $ drop ! $
         move ! (2 ∷ []) $ peeks ! P.the-row (Is P.the-row) (shows 𝓤 H A P.the-row) p₃ (u₃ ∷ []) (λ isp₃. land ! (from ! (stop !)) (init ! 53 refl (LL.lawful P.the-type P′.the-laws 𝓤 H A W .typed p₃ _ isp₃ .0)) $

@@ -40,13 +40,13 @@ use denote.Triple.Table.{entered, cited}
 use denote.Triple.Walked.{says, needs, Stays, stay-none, gave-slice, walkOf, goes-none, goes-gave-slice, Walks, ends-at, walked, walk-meets}
 use denote.Exit.{yes}
 use denote.Triple.Clauses.{ensured, lasts}
-use Rattle.casefile.specs.Sections.{filedFault, ReadingsFrom, Filed}
+use Rattle.casefile.specs.Sections.{filedFault, ReadingsFrom, ReadingsMet}
 use Rattle.casefile.specs.declared.reader.Reader.{Reader}
-use Rattle.casefile.specs.declared.sections.Progress.{Progress}
+use Rattle.casefile.specs.declared.sections.SectionEnd.{SectionEnd}
 use Rattle.casefile.proofs.reader.Reader as T
 use Rattle.casefile.proofs.reader.Reader.Laws as T′
-use Rattle.casefile.proofs.sections.Progress as P
-use Rattle.casefile.proofs.sections.Progress.Laws as P′
+use Rattle.casefile.proofs.sections.SectionEnd as P
+use Rattle.casefile.proofs.sections.SectionEnd.Laws as P′
 use Rattle.casefile.proofs.Held.{file-out}
 use Rattle.casefile.proofs.readings.readings_at as callee
 use Rattle.casefile.proofs.readings.readings_at.Symbol as callee-def
@@ -75,7 +75,7 @@ module _ {M : Type 1} (𝓤 : URA M) (H : Heap 𝓤) (A : Atoms 𝓤) (mem : Mem
   abbrev ReadingsAt : Contract 𝓤
   ReadingsAt = tripleOf 𝓤 H A callee.signature (callee.spec 𝓤 H A mem run)
 
-module _ {M : Type 1} (𝓤 : URA M) (H : Heap 𝓤) (A : Atoms 𝓤) (W : Given 𝓤 H A) (mem : Memory → SProp 𝓤) (run : Routine → Fun 𝓤) (κ κ′ κ′′ : Lft) (q q′ q′′ : Share) (d : Reader) (p : Progress) (bm om : ℕ) (γm : GName) (ms : List ℕ) (bc oc : ℕ) (γc : GName) (cs : List ℕ) where
+module _ {M : Type 1} (𝓤 : URA M) (H : Heap 𝓤) (A : Atoms 𝓤) (W : Given 𝓤 H A) (mem : Memory → SProp 𝓤) (run : Routine → Fun 𝓤) (κ κ′ κ′′ : Lft) (q q′ q′′ : Share) (d : Reader) (p : SectionEnd) (bm om : ℕ) (γm : GName) (ms : List ℕ) (bc oc : ℕ) (γc : GName) (cs : List ℕ) where
   abbrev κs : Lfts 3
   κs = (κ, (κ′, (κ′′, tt)))
 
@@ -104,8 +104,8 @@ module _ {M : Type 1} (𝓤 : URA M) (H : Heap 𝓤) (A : Atoms 𝓤) (W : Given
   abbrev Asked : Type 0
   Asked = ReadingsFrom (now (d .file)) (d .at) p ms cs
 
-  abbrev Met : Progress → List ℕ → List ℕ → Type 0
-  Met r zm zc = Filed (now (d .file)) (filedFault (now (d .file))) r zm zc
+  abbrev Met : SectionEnd → List ℕ → List ℕ → Type 0
+  Met r zm zc = ReadingsMet (now (d .file)) (filedFault (now (d .file))) r zm zc
 
   abbrev Post : Val → SProp 𝓤
   Post = walkOf 𝓤 H A self.ended stayed (self.clauses 𝓤 H A mem run) .post ((κs, (q, (q′, (q′′, tt))), tt, (d, (p, (xm, (xc, tt)))), (mach ∷ [], (pmach ∷ [], (sm ∷ [], (sc ∷ [], tt))))), tt)
@@ -136,7 +136,7 @@ module _ {M : Type 1} (𝓤 : URA M) (H : Heap 𝓤) (A : Atoms 𝓤) (W : Given
       move ! (2 ∷ 0 ∷ []) $ use2 W (raw (ReadingsAt 𝓤 H A mem run .pre to)) (asked φ) $ frame ! $ done !
 
   module _ (isp : Is P.the-row p (pmach ∷ [])) where
-    exits : (r : Progress) (u : Val) (zm zc : List ℕ) → Met r zm zc → length zm ≡ length ms → length zc ≡ length cs
+    exits : (r : SectionEnd) (u : Val) (zm zc : List ℕ) → Met r zm zc → length zm ≡ length ms → length zc ≡ length cs
         → ent 𝓤 (⋆ 𝓤 H A ((‵ (flft κ q) ⊛ ‵ (flft κ′ q′) ⊛ ‵ (flft κ′′ q′′) ⊛ ‵ ftrue) ∷ ‵ (finally u8 γm zm) ∷ ‵ (finally u64 γc zc) ∷ ‵ (P.the-row .own r (u ∷ [])) ∷ ‵ Own ∷ [])) (Post u)
     exits r u zm zc e lm lc =
         qed W ((‵ (flft κ q) ⊛ ‵ (flft κ′ q′) ⊛ ‵ (flft κ′′ q′′) ⊛ ‵ ftrue) ∷ ‵ (finally u8 γm zm) ∷ ‵ (finally u64 γc zc) ∷ ‵ (P.the-row .own r (u ∷ [])) ∷ ‵ Own ∷ []) ∵
@@ -158,7 +158,7 @@ module _ {M : Type 1} (𝓤 : URA M) (H : Heap 𝓤) (A : Atoms 𝓤) (W : Given
           assigns ! (agg ! (and-then ! (load ! (from ! (stop !)) (look ! 2 refl)) (and-then ! (load ! (from ! (fld ! refl (stop !))) (look-in ! 12 (sub ! 1 refl (whole !)))) (no-more !)))) (from ! (stop !)) (init ! 0 refl (tt, (tt, (record { fits = roomc .0 }, tt)))) $
           move ! (22 ∷ []) $ use1 W (raw (ReadingsAt 𝓤 H A mem run .pre to) ⊛ ‵ Own) (apart φ (wt .1 .1 .0 .fits)) $ split ! $
           calls-at ! fm (ReadingsAt 𝓤 H A mem run) known to (and-then ! (load ! (from ! (stop !)) (look ! 12 refl)) (and-then ! (load ! (from ! (stop !)) (look ! 10 refl)) (and-then ! (load ! (from ! (stop !)) (look ! 18 refl)) (and-then ! (load ! (from ! (stop !)) (look ! 6 refl)) (and-then ! (load ! (from ! (stop !)) (look ! 2 refl)) (no-more !)))))) (λ u.
-          use1 W (later (some (λ (r : Progress). ((‵ (flft κ q) ⊛ ‵ (flft κ′ q′) ⊛ ‵ (flft κ′′ q′′) ⊛ ‵ ftrue) ⊛ ‵ (P.the-row .own r (u ∷ []))) ⊛ raw (ensured 𝓤 H A callee.ended (callee.clauses 𝓤 H A mem run) κs (d .file, (d .at, (p, (xm, (xc, tt))))) tt r)))) (id⊢ 𝓤 _) $ await ! tt $ pick ! (λ r.
+          use1 W (later (some (λ (r : SectionEnd). ((‵ (flft κ q) ⊛ ‵ (flft κ′ q′) ⊛ ‵ (flft κ′′ q′′) ⊛ ‵ ftrue) ⊛ ‵ (P.the-row .own r (u ∷ []))) ⊛ raw (ensured 𝓤 H A callee.ended (callee.clauses 𝓤 H A mem run) κs (d .file, (d .at, (p, (xm, (xc, tt))))) tt r)))) (id⊢ 𝓤 _) $ await ! tt $ pick ! (λ r.
           -- what `readings_at` ensures, at some last lists
           split ! $ move ! (1 ∷ []) $ use1 W (some (λ (zs : Unit {0} × (Unit {0} × (Unit {0} × (List ℕ × (List ℕ × Unit {0}))))). ‵ (lasts callee.ended κs (d .file, (d .at, (p, (xm, (xc, tt))))) zs) ⊛ raw (fact 𝓤 (Met r (zs .1 .1 .1 .0) (zs .1 .1 .1 .1 .0))))) (id⊢ 𝓤 _) $ pick ! (λ zs.
           split ! $ move ! (1 ∷ []) $ heard ! (Met r (zs .1 .1 .1 .0) (zs .1 .1 .1 .1 .0)) (λ e. fsplit ! $ drop ! $ fsplit ! $ drop ! $ fsplit ! $ drop ! $ fsplit ! $ fsplit ! $ move ! (1 ∷ []) $ feqL ! (λ lm. move ! (1 ∷ []) $ fsplit ! $ fsplit ! $ move ! (1 ∷ []) $ feqL ! (λ lc.

@@ -43,11 +43,11 @@ use denote.Triple.Clauses.{ensured, lasts}
 use Rattle.profile.specs.Limits.{spanMost}
 use Rattle.casefile.specs.Sections.{Clear, SpanMet}
 use Rattle.casefile.specs.declared.reader.Reader.{Reader}
-use Rattle.casefile.specs.declared.sections.Progress.{Progress}
+use Rattle.casefile.specs.declared.sections.SectionEnd.{SectionEnd}
 use Rattle.casefile.proofs.reader.Reader as T
 use Rattle.casefile.proofs.reader.Reader.Laws as T′
-use Rattle.casefile.proofs.sections.Progress as P
-use Rattle.casefile.proofs.sections.Progress.Laws as P′
+use Rattle.casefile.proofs.sections.SectionEnd as P
+use Rattle.casefile.proofs.sections.SectionEnd.Laws as P′
 use Rattle.casefile.proofs.Held.{file-out}
 use Rattle.casefile.proofs.span.span_at as callee
 use Rattle.casefile.proofs.span.span_at.Symbol as callee-def
@@ -93,7 +93,7 @@ module _ {M : Type 1} (𝓤 : URA M) (H : Heap 𝓤) (A : Atoms 𝓤) (W : Given
   abbrev s : Val
   s = sliceVal (b, o) (length ys)
 
-  abbrev Met : Progress → List ℕ → Type 0
+  abbrev Met : SectionEnd → List ℕ → Type 0
   Met p zs = SpanMet (now (d .file)) p zs
 
   abbrev Post : Val → SProp 𝓤
@@ -124,7 +124,7 @@ module _ {M : Type 1} (𝓤 : URA M) (H : Heap 𝓤) (A : Atoms 𝓤) (W : Given
       move ! (2 ∷ []) $ owned ! usize (Is usize) (uint-makes 𝓤 H A W w64) (d .at) _ (refl, fits) $ fjoin ! $ move ! (1 ∷ 0 ∷ []) $ fjoin ! $
       move ! (2 ∷ 0 ∷ []) $ use2 W (raw (SpanAt 𝓤 H A mem run .pre to)) (asked φ) $ frame ! $ done !
 
-  exits : (p : Progress) (u : Val) (zs : List ℕ) → Met p zs → length zs ≡ length ys
+  exits : (p : SectionEnd) (u : Val) (zs : List ℕ) → Met p zs → length zs ≡ length ys
       → ent 𝓤 (⋆ 𝓤 H A ((‵ (flft κ q) ⊛ ‵ (flft κ′ q′) ⊛ ‵ ftrue) ∷ ‵ (finally u32 γ zs) ∷ ‵ (P.the-row .own p (u ∷ [])) ∷ ‵ Own ∷ [])) (Post u)
   exits p u zs e l =
       qed W ((‵ (flft κ q) ⊛ ‵ (flft κ′ q′) ⊛ ‵ ftrue) ∷ ‵ (finally u32 γ zs) ∷ ‵ (P.the-row .own p (u ∷ [])) ∷ ‵ Own ∷ []) ∵
@@ -144,7 +144,7 @@ module _ {M : Type 1} (𝓤 : URA M) (H : Heap 𝓤) (A : Atoms 𝓤) (W : Given
         assigns ! (agg ! (and-then ! (load ! (from ! (stop !)) (look ! 2 refl)) (and-then ! (load ! (from ! (fld ! refl (stop !))) (look-in ! 8 (sub ! 1 refl (whole !)))) (no-more !)))) (from ! (stop !)) (init ! 0 refl (tt, (tt, (record { fits = room .0 }, tt)))) $
         move ! (14 ∷ []) $ use1 W (raw (SpanAt 𝓤 H A mem run .pre to) ⊛ ‵ Own) (apart φ (wt .1 .1 .0 .fits)) $ split ! $
         calls-at ! fm (SpanAt 𝓤 H A mem run) known to (and-then ! (load ! (from ! (stop !)) (look ! 8 refl)) (and-then ! (load ! (from ! (stop !)) (look ! 6 refl)) (and-then ! (load ! (from ! (stop !)) (look ! 2 refl)) (no-more !)))) (λ u.
-        use1 W (later (some (λ (p : Progress). ((‵ (flft κ q) ⊛ ‵ (flft κ′ q′) ⊛ ‵ ftrue) ⊛ ‵ (P.the-row .own p (u ∷ []))) ⊛ raw (ensured 𝓤 H A callee.ended (callee.clauses 𝓤 H A mem run) κs (d .file, (d .at, (x, tt))) tt p)))) (id⊢ 𝓤 _) $ await ! tt $ pick ! (λ p.
+        use1 W (later (some (λ (p : SectionEnd). ((‵ (flft κ q) ⊛ ‵ (flft κ′ q′) ⊛ ‵ ftrue) ⊛ ‵ (P.the-row .own p (u ∷ []))) ⊛ raw (ensured 𝓤 H A callee.ended (callee.clauses 𝓤 H A mem run) κs (d .file, (d .at, (x, tt))) tt p)))) (id⊢ 𝓤 _) $ await ! tt $ pick ! (λ p.
         -- what `span_at` ensures, at some last list
         split ! $ move ! (1 ∷ []) $ use1 W (some (λ (zs : Unit {0} × (Unit {0} × (List ℕ × Unit {0}))). ‵ (lasts callee.ended κs (d .file, (d .at, (x, tt))) zs) ⊛ raw (fact 𝓤 (Met p (zs .1 .1 .0))))) (id⊢ 𝓤 _) $ pick ! (λ zs.
         split ! $ move ! (1 ∷ []) $ heard ! (Met p (zs .1 .1 .0)) (λ e. fsplit ! $ drop ! $ fsplit ! $ drop ! $ fsplit ! $ fsplit ! $ move ! (1 ∷ []) $ feqL ! (λ l.

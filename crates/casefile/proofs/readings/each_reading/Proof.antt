@@ -7,7 +7,7 @@ use mathlib.Core.List.{List}
 use lib.ListN.{length, length-set}
 use Rattle.casefile.specs.declared.readings.Reading.{Reading}
 use Rattle.casefile.specs.Case.{daysOf, readingsLength, readingOffset, readingBoundary, readingCount}
-use Rattle.casefile.specs.Faults.{none, readingFault}
+use Rattle.casefile.specs.Faults.{noFault, readingFault}
 use Rattle.casefile.specs.Sections.{told}
 use Rattle.casefile.proofs.Faults.{met, stops, goes, first-told}
 use Rattle.casefile.proofs.Items.{ReadingsRead, sane, item-is, not-below, readings-none, readings-more}
@@ -48,7 +48,7 @@ item : (c : tie.After-reading-at Inv-loop μ-loop) → told (c .reading-at .resu
 item c = rw (offset c, c .before .before .before .before .before .before .before .pre .days-are) at (c .reading-at .ensures .tells) ∙ item-is (c .before .before .loop .inv .4) (c .before .before .before .first-count .result) (counted (c .before .before .before))
 
 pub record Good (s : List ℕ) (i : ℕ) (r : Reading) : Type 0 where
-  pub clean : readingFault s i ≡ none
+  pub clean : readingFault s i ≡ noFault
   pub boundary-is : r .boundary ≡ readingBoundary s i
   pub count-is : r .count ≡ readingCount s i
   pub inside : r .boundary ≤ daysOf s

@@ -5,8 +5,7 @@ use borrow.Author.Tests.{lt-ltb, le-ltb, lt-leb, le-leb}
 use lib.Dec.{lit<}
 use Prim.Native.Nat.{ℕ, _-_}
 use lib.ListN.{length, getD}
-use Rattle.profile.specs.Limits.{profileCount}
-use Rattle.account.specs.Account.{badSpan}
+use Rattle.profile.specs.Limits.{profileCount, badSpan}
 use Rattle.casefile.specs.Faults.{fault, headFault}
 use Rattle.casefile.proofs.Faults.{stops, goes}
 use borrow.Author.Needs.{needs}

@@ -11,7 +11,7 @@ use mir.Facts.{toZ-ofZ}
 use Rattle.profile.specs.Limits.{inRange}
 use Rattle.casefile.specs.Bytes.{number16, signed, signed16}
 use Rattle.casefile.specs.Case.{meansLength, meanOffset}
-use Rattle.casefile.specs.Faults.{none, meanFault}
+use Rattle.casefile.specs.Faults.{noFault, meanFault}
 use Rattle.casefile.proofs.Faults.{met, stops, goes, first-is}
 use Rattle.casefile.proofs.Means.{MeansRead, means-none, means-more}
 use Rattle.casefile.proofs.span.means_at.Statement.{statement}
@@ -100,7 +100,7 @@ loop-again : tie.Need-loop-again Inv-loop μ-loop
 loop-again c =
     let s = c .before .before .before .before .before .before .before .before .args .file .now in
     let i = c .before .before .before .before .before .before .loop .i in
-    let clean : meanFault s i ≡ none = simp (le-ltb (length s) (meanOffset i + 2) (omega arith), ← asked (c .before), not-false (c .before .in-range .result) (c .if2 .left)) in
+    let clean : meanFault s i ≡ noFault = simp (le-ltb (length s) (meanOffset i + 2) (omega arith), ← asked (c .before), not-false (c .before .in-range .result) (c .if2 .left)) in
     (omega arith, simp length-set (omega arith), rw (toZ-ofZ {w = w16} (sfits-of (c .before .before .signed .ok)), value (c .before .before)) (means-more (c .before .before .before .before .before .before .loop .inv .2) (omega arith) clean))
 
 sub-passed : tie.Need-sub-passed Inv-loop μ-loop

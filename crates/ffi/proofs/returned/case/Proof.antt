@@ -4,13 +4,13 @@ use borrow.Author.Needs.{needs}
 use Rattle.casefile.specs.declared.CaseAnswer.{CaseAnswer}
 use Rattle.casefile.specs.Reader as reader
 use Rattle.ffi.specs.declared.Outcome.{Outcome}
-use Rattle.ffi.specs.Calls.{told}
+use Rattle.ffi.specs.Calls.{outcomeOf}
 use Rattle.ffi.proofs.returned.case.Statement.{statement}
 use Rattle.ffi.proofs.returned.case.Tie as tie
 
 -- what the answer tells
 abbrev tells : CaseAnswer → Outcome
-tells answer = told (reader.number answer) (reader.place answer) (reader.days answer)
+tells answer = outcomeOf (reader.number answer) (reader.place answer) (reader.days answer)
 
 enum-known-answer : tie.Need-enum-known-answer
 enum-known-answer c = search needs

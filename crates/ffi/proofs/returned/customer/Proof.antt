@@ -4,13 +4,13 @@ use borrow.Author.Needs.{needs}
 use Rattle.customer.specs.declared.CustomerAnswer.{CustomerAnswer}
 use Rattle.customer.specs.Customer as customer
 use Rattle.ffi.specs.declared.Outcome.{Outcome}
-use Rattle.ffi.specs.Calls.{told}
+use Rattle.ffi.specs.Calls.{outcomeOf}
 use Rattle.ffi.proofs.returned.customer.Statement.{statement}
 use Rattle.ffi.proofs.returned.customer.Tie as tie
 
 -- what the answer tells
 abbrev tells : CustomerAnswer → Outcome
-tells answer = told (customer.number answer) 0 (customer.value answer)
+tells answer = outcomeOf (customer.number answer) 0 (customer.value answer)
 
 enum-known-answer : tie.Need-enum-known-answer
 enum-known-answer c = search needs

@@ -4,13 +4,13 @@ use borrow.Author.Needs.{needs}
 use Rattle.statement.specs.declared.StatementAnswer.{StatementAnswer}
 use Rattle.statement.specs.Call as call
 use Rattle.ffi.specs.declared.Outcome.{Outcome}
-use Rattle.ffi.specs.Calls.{told}
+use Rattle.ffi.specs.Calls.{outcomeOf}
 use Rattle.ffi.proofs.returned.statement.Statement.{statement}
 use Rattle.ffi.proofs.returned.statement.Tie as tie
 
 -- what the answer tells
 abbrev tells : StatementAnswer → Outcome
-tells answer = told (call.number answer) 0 (call.partCount answer)
+tells answer = outcomeOf (call.number answer) 0 (call.partCount answer)
 
 enum-known-answer : tie.Need-enum-known-answer
 enum-known-answer c = search needs

@@ -2,15 +2,15 @@
 use mathlib.Core.Path.{sym, ap}
 use borrow.Author.Needs.{needs}
 use Rattle.profile.specs.declared.WeightAnswer.{WeightAnswer}
-use Rattle.profile.specs.Answers.{weightNumber, weightGiven}
+use Rattle.profile.specs.Answers.{weightAnswered, weightGiven}
 use Rattle.ffi.specs.declared.Outcome.{Outcome}
-use Rattle.ffi.specs.Calls.{told}
+use Rattle.ffi.specs.Calls.{outcomeOf}
 use Rattle.ffi.proofs.returned.weight.Statement.{statement}
 use Rattle.ffi.proofs.returned.weight.Tie as tie
 
 -- what the answer tells
 abbrev tells : WeightAnswer → Outcome
-tells answer = told (weightNumber answer) 0 (weightGiven answer)
+tells answer = outcomeOf (weightAnswered answer) 0 (weightGiven answer)
 
 enum-known-answer : tie.Need-enum-known-answer
 enum-known-answer c = search needs

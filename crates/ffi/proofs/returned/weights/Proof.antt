@@ -4,13 +4,13 @@ use borrow.Author.Needs.{needs}
 use Rattle.weights.specs.declared.WeightsAnswer.{WeightsAnswer}
 use Rattle.weights.specs.Weights as span
 use Rattle.ffi.specs.declared.Outcome.{Outcome}
-use Rattle.ffi.specs.Calls.{told}
+use Rattle.ffi.specs.Calls.{outcomeOf}
 use Rattle.ffi.proofs.returned.weights.Statement.{statement}
 use Rattle.ffi.proofs.returned.weights.Tie as tie
 
 -- what the answer tells
 abbrev tells : WeightsAnswer → Outcome
-tells answer = told (span.number answer) (span.place answer) 0
+tells answer = outcomeOf (span.number answer) (span.place answer) 0
 
 enum-told : tie.Need-enum-told
 enum-told c = search needs

@@ -2,7 +2,7 @@
 -- Assumes nothing.
 use native.Mathlib.Nat.{mul-le-mul}
 use native.Mathlib.Omega.{arith}
-use Rattle.power.specs.Power.{one, product}
+use Rattle.power.specs.Power.{one, scaledProduct}
 use Rattle.power.proofs.rounded.product.Statement.{statement}
 use Rattle.power.proofs.rounded.product.Tie as tie
 
@@ -15,7 +15,7 @@ unfolding one
 quotient-requires c κs = omega (arith, mul-le-mul (c .pre .0) (c .pre .1))
 
 returns : tie.Need-returns
-unfolding product one
+unfolding scaledProduct one
 returns c = c .quotient .ensures
 
 pub product-spec : {M : Type 1} → statement M

@@ -18,8 +18,8 @@ returns c =
     let above : profileCount ≤ c .before .args .n = omega arith in
     let test = le-leb profileCount (c .before .args .n) above in (
       record {
-        number = simp test;
-        profile = sym (List·getD-eq-default table noProfile above);
+        answers = simp test;
+        gives = sym (List·getD-eq-default table noProfile above);
         week = simp test (λ e. absurd (omega arith));
       },
       (search needs, search needs),
@@ -32,8 +32,8 @@ returns-2 : tie.Need-returns-2
 returns-2 c =
     let test = lt-leb _ _ (c .before .if1 .left) in (
       record {
-        number = simp test;
-        profile = c .row .ensures;
+        answers = simp test;
+        gives = c .row .ensures;
         week = λ e. rw (c .row .ensures) (profile-tested (c .before .before .args .n) (c .before .if1 .left) .week);
       },
       (search needs, search needs),

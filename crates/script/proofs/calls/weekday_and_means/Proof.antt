@@ -1,6 +1,6 @@
 -- `script::calls::weekday_and_means` meets its contract. Assumes nothing.
 use mathlib.Core.Path.{sym, ap, _∙_}
-use Rattle.script.specs.Calls.{when, weekdayAndMeans}
+use Rattle.script.specs.Calls.{provided, weekdayAndMeans}
 use Rattle.script.proofs.Split.{between, words-end, word-within}
 use Rattle.script.proofs.Judged.{weekday-of}
 use Rattle.script.proofs.Digits.{number-within}
@@ -67,7 +67,7 @@ returns-3 c =
     let told = sym (c .before .before .before .before .before .number .ensures) ∙ c .before .before .before .weekday .given .1 in
     let all = sym (c .before .all-means .ensures) ∙ c .if2 .taken in
     sym (weekday-of (a .line .now) (a .end) (next .next .result) (next .before .if1 .left) (next .next .ensures) _ (a .profile) told ∙
-    ap (λ (x : Bool). when x (Days (a .profile) (c .before .before .before .weekday .given .0 .0))) all)
+    ap (λ (x : Bool). provided x (Days (a .profile) (c .before .before .before .weekday .given .0 .0))) all)
 
 returns-4 : tie.Need-returns-4
 returns-4 c =
@@ -76,7 +76,7 @@ returns-4 c =
     let told = sym (c .before .before .before .before .before .number .ensures) ∙ c .before .before .before .weekday .given .1 in
     let all = sym (c .before .all-means .ensures) ∙ c .if2 .left in
     sym (weekday-of (a .line .now) (a .end) (next .next .result) (next .before .if1 .left) (next .next .ensures) _ (a .profile) told ∙
-    ap (λ (x : Bool). when x (Days (a .profile) (c .before .before .before .weekday .given .0 .0))) all)
+    ap (λ (x : Bool). provided x (Days (a .profile) (c .before .before .before .weekday .given .0 .0))) all)
 
 pub weekday-and-means-spec : {M : Type 1} → statement M
 weekday-and-means-spec =

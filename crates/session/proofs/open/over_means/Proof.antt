@@ -5,7 +5,7 @@ use native.Mathlib.Omega.{arith}
 use lib.ListN.{length, take, drop, replicate, length-replicate}
 use lib.Seq.{length-take-le, take-at}
 use Rattle.account.specs.Account.{account}
-use Rattle.weights.specs.Weights.{outcome}
+use Rattle.weights.specs.Weights.{ruling}
 use Rattle.session.proofs.Opening.{offer-refused, same-offer, offer-is, no-place, unspanned, too-few, too-long}
 use borrow.Author.Needs.{needs}
 use Rattle.session.proofs.open.over_means.Statement.{statement}
@@ -18,7 +18,7 @@ returns : tie.Need-returns
 returns c =
     let a = c .before .before .before .before .before .before .args in
     let b = account (a .weights .now) (a .marks .now) (a .counts .now) in
-    let o = outcome (a .profile) (a .weekday) (a .means .now) (replicate (length (a .means .now) - 3) 0) in
+    let o = ruling (a .profile) (a .weekday) (a .means .now) (replicate (length (a .means .now) - 3) 0) in
     let three = unspanned (a .profile) (a .weekday) (a .means .now) (replicate (length (a .means .now) - 3) 0) (too-few (length (a .means .now) - 3) (omega arith)) in
     offer-refused o b (c .refused .result) (λ e. omega (arith, sym (three .0) ∙ e)) (c .refused .ensures .0 ∙ sym (three .0)) (c .refused .ensures .1 ∙ sym (three .1)) (c .refused .ensures .2)
 
@@ -32,7 +32,7 @@ returns-2 : tie.Need-returns-2
 returns-2 c =
     let a = c .before .before .before .before .before .before .before .args in
     let b = account (a .weights .now) (a .marks .now) (a .counts .now) in
-    let o = outcome (a .profile) (a .weekday) (a .means .now) (replicate (length (a .means .now) - 3) 0) in
+    let o = ruling (a .profile) (a .weekday) (a .means .now) (replicate (length (a .means .now) - 3) 0) in
     let three = unspanned (a .profile) (a .weekday) (a .means .now) (replicate (length (a .means .now) - 3) 0) (too-long (length (a .means .now) - 3) (omega arith)) in
     offer-refused o b (c .refused2 .result) (λ e. omega (arith, sym (three .0) ∙ e)) (c .refused2 .ensures .0 ∙ sym (three .0)) (c .refused2 .ensures .1 ∙ sym (three .1)) (c .refused2 .ensures .2)
 
@@ -74,7 +74,7 @@ returns-3 c =
     let given = sym (c .before .before .before .before .before .before .before .before .before .before .before .before .before .answered .ensures .0) ∙ c .before .before .before .before .before .before .before .before .before .before .before .if3 .taken in
     let last = call .last .1 .1 .1 .0 in
     let got = take-at last (drop n (a .fresh .now)) n (call .kept .1 .1 .1 .0 ∙ long) in
-    let offer = offer-is (outcome (a .profile) (a .weekday) (a .means .now) x) last (sym (call .ensures .number-is) ∙ given) (sym (call .ensures .place-is) ∙ no-place (call .result) given) (call .ensures .after-is) in
+    let offer = offer-is (ruling (a .profile) (a .weekday) (a .means .now) x) last (sym (call .ensures .answers) ∙ given) (sym (call .ensures .places) ∙ no-place (call .result) given) (call .ensures .writes) in
     same-offer (a .profile) (a .weekday) (a .means .now) x (replicate n 0) (long ∙ sym (length-replicate n 0)) b _ _
     (rw offer at (rw got at (c .before .before .before .before .before .before .over .ensures)))
 
@@ -86,12 +86,12 @@ returns-4 c =
     let a = c .before .before .before .before .before .before .before .before .before .before .before .before .before .args in
     let b = account (a .weights .now) (a .marks .now) (a .counts .now) in
     let n = length (a .means .now) - 3 in
-    let o = outcome (a .profile) (a .weekday) (a .means .now) (take n (a .fresh .now)) in
+    let o = ruling (a .profile) (a .weekday) (a .means .now) (take n (a .fresh .now)) in
     let met = c .before .before .before .before .before .weights .ensures in
     let told = c .before .before .answered in
-    let number = told .ensures .0 ∙ met .number-is in
+    let number = told .ensures .0 ∙ met .answers in
     same-offer (a .profile) (a .weekday) (a .means .now) (take n (a .fresh .now)) (replicate n 0) (length-take-le n (a .fresh .now) (omega arith) ∙ sym (length-replicate n 0)) b (told .result) b
-    (offer-refused o b (told .result) (λ e. c .if3 .left (number ∙ e)) number (told .ensures .1 ∙ met .place-is) (told .ensures .2))
+    (offer-refused o b (told .result) (λ e. c .if3 .left (number ∙ e)) number (told .ensures .1 ∙ met .places) (told .ensures .2))
 
 pub over-means-spec : {M : Type 1} → statement M
 over-means-spec =

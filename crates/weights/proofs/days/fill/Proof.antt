@@ -30,7 +30,7 @@ as-given : (c : tie.After-temperature-of Inv-loop μ-loop) → toZ w16 (ofZ w16 
 as-given c = toZ-ofZ {w = w16} (sfits-of (c .temperature-of .ok))
 
 temperature-of-requires : tie.Need-temperature-of-requires Inv-loop μ-loop
-temperature-of-requires c κs = (c .before .before .before .pre .0 .measured, omega arith)
+temperature-of-requires c κs = (c .before .before .before .pre .0 .means-in-range, omega arith)
 
 add-day : tie.Need-add-day Inv-loop μ-loop
 add-day c = omega arith
@@ -41,7 +41,7 @@ cast-weight-at c = omega arith
 weight-at-requires : tie.Need-weight-at-requires Inv-loop μ-loop
 weight-at-requires c κs =
     let s = c .before .before .before .before in
-    (s .pre .0 .profiled, omega arith, ap inRange (as-given c) ∙ c .temperature-of .ensures .1)
+    (s .pre .0 .profile-known, omega arith, ap inRange (as-given c) ∙ c .temperature-of .ensures .1)
 
 mul-out : tie.Need-mul-out Inv-loop μ-loop
 mul-out c = search needs

@@ -13,14 +13,14 @@ use Rattle.weights.proofs.Raised.{Raised, lowered, of-four, same}
 use Rattle.weights.proofs.means.of_four.Statement.{statement}
 use Rattle.weights.proofs.means.of_four.Tie as tie
 
-raise-requires : tie.Need-raise-requires
-raise-requires c κs = search needs
+above-coldest-requires : tie.Need-above-coldest-requires
+above-coldest-requires c κs = search needs
 
 mul-sum : tie.Need-mul-sum
 mul-sum c = search needs
 
-raise-requires-2 : tie.Need-raise-requires-2
-raise-requires-2 c κs = search needs
+above-coldest-requires-2 : tie.Need-above-coldest-requires-2
+above-coldest-requires-2 c κs = search needs
 
 mul-sum-2 : tie.Need-mul-sum-2
 mul-sum-2 c = search needs
@@ -28,8 +28,8 @@ mul-sum-2 c = search needs
 add-sum : tie.Need-add-sum
 add-sum c = search needs
 
-raise-requires-3 : tie.Need-raise-requires-3
-raise-requires-3 c κs = search needs
+above-coldest-requires-3 : tie.Need-above-coldest-requires-3
+above-coldest-requires-3 c κs = search needs
 
 mul-sum-3 : tie.Need-mul-sum-3
 mul-sum-3 c = search needs
@@ -37,34 +37,34 @@ mul-sum-3 c = search needs
 add-sum-2 : tie.Need-add-sum-2
 add-sum-2 c = search needs
 
-raise-requires-4 : tie.Need-raise-requires-4
-raise-requires-4 c κs = search needs
+above-coldest-requires-4 : tie.Need-above-coldest-requires-4
+above-coldest-requires-4 c κs = search needs
 
 add-sum-3 : tie.Need-add-sum-3
 add-sum-3 c = search needs
 
-mul-lower : tie.Need-mul-lower
-mul-lower c = search needs
+mul-from-coldest : tie.Need-mul-from-coldest
+mul-from-coldest c = search needs
 
-add-lower : tie.Need-add-lower
-add-lower c = search needs
+add-from-coldest : tie.Need-add-from-coldest
+add-from-coldest c = search needs
 
-lower-requires : tie.Need-lower-requires
-lower-requires c κs = search needs
+from-coldest-requires : tie.Need-from-coldest-requires
+from-coldest-requires c κs = search needs
 
--- a mean that `raise` was passed, from what `raise` ensures of it
+-- a mean that `above_coldest` was passed, from what `above_coldest` ensures of it
 lifted : {z : ℤ} (r : ℕ) → SFits w16 z → toZ w16 (ofZ w16 z) ≡ pos r +ℤ coldest → Raised z r
 lifted r f e = rw (← toZ-ofZ f, e) (lowered r)
 
 returns : tie.Need-returns
 returns c =
     let s = c .before .before .before .before .before in
-    let a = c .before .before .before .before .raise in
-    let b = c .before .before .before .raise2 in
-    let c′ = c .before .before .raise3 in
-    let d = c .before .raise4 in
-    toZ-ofZ {w = w16} (sfits-of (c .lower .ok))
-    ∙ c .lower .ensures
+    let a = c .before .before .before .before .above-coldest in
+    let b = c .before .before .before .above-coldest2 in
+    let c′ = c .before .before .above-coldest3 in
+    let d = c .before .above-coldest4 in
+    toZ-ofZ {w = w16} (sfits-of (c .from-coldest .ok))
+    ∙ c .from-coldest .ensures
     ∙ same (lowered _)
     (of-four (s .args .a) (s .args .b) (s .args .c) (s .args .d)
     (lifted (a .result) (s .fits .a) (a .ensures .0))
@@ -76,17 +76,17 @@ pub of-four-spec : {M : Type 1} → statement M
 of-four-spec =
     tie.close
     (tie.spec
-    raise-requires
+    above-coldest-requires
     mul-sum
-    raise-requires-2
+    above-coldest-requires-2
     mul-sum-2
     add-sum
-    raise-requires-3
+    above-coldest-requires-3
     mul-sum-3
     add-sum-2
-    raise-requires-4
+    above-coldest-requires-4
     add-sum-3
-    mul-lower
-    add-lower
-    lower-requires
+    mul-from-coldest
+    add-from-coldest
+    from-coldest-requires
     returns)

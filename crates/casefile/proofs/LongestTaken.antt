@@ -13,7 +13,7 @@ use Rattle.weights.specs.Weights.{listOf}
 use Rattle.weights.proofs.Span.{listOf-length, listOf-at}
 use Rattle.casefile.specs.Bytes.{little, number16, signed}
 use Rattle.casefile.specs.Case.{meansLength, meanOffset, daysOf, readingsOffset, readingsLength, readingOffset, readingBoundary, readingCount, cutsOffset, cutsLength, cutOffset, cutBoundary, endOf}
-use Rattle.casefile.specs.Faults.{none, falls, meanFault, readingFault, cutFault, headFault, meansFault, readingsFault, cutsFault}
+use Rattle.casefile.specs.Faults.{noFault, falls, meanFault, readingFault, cutFault, headFault, meansFault, readingsFault, cutsFault}
 use Rattle.casefile.specs.Length.{fileMost, Taken}
 use Rattle.casefile.proofs.Faults.{none-of}
 use Rattle.casefile.proofs.Items.{some-above}
@@ -171,11 +171,11 @@ rising : (boundary : ℕ → ℕ) (k : ℕ) → ((j : ℕ) → j ≤ k → bound
 rising boundary zero is = refl
 rising boundary (suc k) is = lt-leb (boundary (suc k)) (boundary k) (omega (arith, is k (omega arith), is (suc k) (omega arith)))
 
-mean-clean : (i : ℕ) → i < 1099 → meanFault file i ≡ none
+mean-clean : (i : ℕ) → i < 1099 → meanFault file i ≡ noFault
 unfolding signed limits.inRange
 mean-clean i l = rw (reaches (meanOffset i + 2) (omega arith), mean-is i l) refl
 
-reading-clean : (k : ℕ) → k < 1097 → readingFault file k ≡ none
+reading-clean : (k : ℕ) → k < 1097 → readingFault file k ≡ noFault
 reading-clean k l =
     rw (
       reaches (readingOffset file k + 10) (omega (arith, reading-offset k)),
@@ -185,7 +185,7 @@ reading-clean k l =
       le-ltb energyMost (readingCount file k - readingCount file 0) (omega (arith, count-is k l)),
     ) refl
 
-cut-clean : (k : ℕ) → k < 1097 → cutFault file k ≡ none
+cut-clean : (k : ℕ) → k < 1097 → cutFault file k ≡ noFault
 cut-clean k l =
     rw (
       reaches (cutOffset file k + 2) (omega (arith, cut-offset k)),
@@ -193,7 +193,7 @@ cut-clean k l =
       le-ltb (daysOf file) (cutBoundary file k) (omega (arith, means-counted, cut-is k l)),
     ) refl
 
-head-clean : headFault file ≡ none
+head-clean : headFault file ≡ noFault
 unfolding content
 head-clean =
     rw (
@@ -205,15 +205,15 @@ head-clean =
       means-counted,
     ) refl
 
-means-clean : meansFault file ≡ none
+means-clean : meansFault file ≡ noFault
 means-clean = none-of (meanFault file) (meansLength file) (λ i l. mean-clean i (omega (arith, means-counted)))
 
-readings-clean : readingsFault file ≡ none
+readings-clean : readingsFault file ≡ noFault
 readings-clean =
     rw (reaches (readingsOffset file + 2) (omega (arith, means-counted)))
     (none-of (readingFault file) (readingsLength file) (λ k l. reading-clean k (omega (arith, readings-counted))))
 
-cuts-clean : cutsFault file ≡ none
+cuts-clean : cutsFault file ≡ noFault
 cuts-clean =
     rw (
       reaches (cutsOffset file + 2) (omega (arith, means-counted, readings-counted)),

@@ -1,4 +1,4 @@
--- `console::answer` meets its contract. The loop's invariant: what the script's text still has is what the lines from here on print.
+-- `console::answers::answer` meets its contract. The loop's invariant: what the script's text still has is what the lines from here on print.
 -- The measure is the part of the script that is left. Assumes nothing.
 use Prim.Native.Nat.{_-_, _≤_}
 use mathlib.Core.Path.{_≡_, refl, sym, _∙_}
@@ -12,8 +12,8 @@ use Rattle.script.proofs.Input.{whole-within}
 use Rattle.session.specs.Lines.{session}
 use Rattle.session.proofs.Joined.{run-within, run-passes, run-goes-on}
 use Rattle.session.proofs.Sent.{SentSoFar, sent-none, sent-next, sent-more, sent-all}
-use Rattle.console.proofs.answer.Statement.{statement}
-use Rattle.console.proofs.answer.Tie as tie
+use Rattle.console.proofs.answers.answer.Statement.{statement}
+use Rattle.console.proofs.answers.answer.Tie as tie
 
 abbrev Inv-loop : tie.InvT-loop
 Inv-loop input weights₀ marks₀ counts₀ out₀ end at₀ done₀ days₀ sent₀ weights marks counts out at done days sent =

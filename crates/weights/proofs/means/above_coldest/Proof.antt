@@ -1,11 +1,11 @@
--- `weights::means::raise` meets its contract: a mean in range less the coldest one is its raised number.
+-- `weights::means::above_coldest` meets its contract: a mean in range less the coldest one is its raised number.
 -- Assumes nothing.
 use native.Mathlib.Omega.{arith}
 use mir.Syntax.{w16}
 use mir.Facts.{toZ-pos}
 use Rattle.weights.proofs.Raised.{up, raised, raised-bits, same, lowered}
-use Rattle.weights.proofs.means.raise.Statement.{statement}
-use Rattle.weights.proofs.means.raise.Tie as tie
+use Rattle.weights.proofs.means.above_coldest.Statement.{statement}
+use Rattle.weights.proofs.means.above_coldest.Tie as tie
 
 sub-result : tie.Need-sub-result
 sub-result c = let r = raised _ (c .pre) in rw (raised-bits _ (c .pre)) (record { sfits = omega arith })
@@ -20,5 +20,5 @@ returns c =
     let r = raised _ (c .pre) in
     rw (raised-bits _ (c .pre), toZ-pos w16 {n = up (c .args .mean)} (omega arith)) (same (r .1) (lowered _), r .0)
 
-pub raise-spec : {M : Type 1} → statement M
-raise-spec = tie.close (tie.spec sub-result cast-result returns)
+pub above-coldest-spec : {M : Type 1} → statement M
+above-coldest-spec = tie.close (tie.spec sub-result cast-result returns)

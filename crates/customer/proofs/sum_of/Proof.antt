@@ -1,4 +1,4 @@
--- `customer::total` meets its contract. The loop's invariant: the sum so far and the sum of the rest are the sum of all, and the sum so
+-- `customer::sum_of` meets its contract. The loop's invariant: the sum so far and the sum of the rest are the sum of all, and the sum so
 -- far is at most 2^32 for each weight passed. Assumes nothing.
 use Prim.Native.Nat.{ℕ, _+_, _-_, _*_, _≤_, _<_, _^_}
 use mathlib.Core.Path.{_≡_}
@@ -9,8 +9,8 @@ use native.Mathlib.Numerals.{add-one}
 use lib.ListN.{length, getD, drop, drop-of-length-le}
 use lib.Seq.{drop-cons}
 use Rattle.profile.specs.Coefficients.{sumOf}
-use Rattle.customer.proofs.total.Statement.{statement}
-use Rattle.customer.proofs.total.Tie as tie
+use Rattle.customer.proofs.sum_of.Statement.{statement}
+use Rattle.customer.proofs.sum_of.Tie as tie
 
 one-more : (w : List ℕ) (i : ℕ) → i < length w → sumOf (drop i w) ≡ getD w i 0 + sumOf (drop (i + 1) w)
 unfolding sumOf
@@ -55,8 +55,8 @@ loop-again c =
 returns : tie.Need-returns Inv-loop μ-loop
 returns c = omega (arith, none-left (c .before .before .args .weights .now) (c .before .loop .i) (c .loop-test .left))
 
-pub total-spec : {M : Type 1} → statement M
-total-spec =
+pub sum-of-spec : {M : Type 1} → statement M
+sum-of-spec =
     tie.close
     (tie.spec
     Inv-loop

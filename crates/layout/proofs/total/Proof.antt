@@ -1,4 +1,4 @@
--- `layout::sum_of` meets its contract. The loop's invariant: the sum so far, at most 2,000,000,000 for each part passed. Assumes nothing.
+-- `layout::total` meets its contract. The loop's invariant: the sum so far, at most 2,000,000,000 for each part passed. Assumes nothing.
 use Prim.Native.Nat.{ℕ, _-_, _*_, _≤_}
 use mathlib.Core.Path.{_≡_, sym}
 use mathlib.Core.List.{List}
@@ -11,8 +11,8 @@ use lib.ListN.{getD}
 use Rattle.layout.proofs.Sums.{total-none, total-more}
 use Rattle.statement.specs.Parts.{outputs}
 use Rattle.statement.specs.Shares.{total}
-use Rattle.layout.proofs.sum_of.Statement.{statement}
-use Rattle.layout.proofs.sum_of.Tie as tie
+use Rattle.layout.proofs.total.Statement.{statement}
+use Rattle.layout.proofs.total.Tie as tie
 
 abbrev Inv-loop : tie.InvT-loop
 Inv-loop wh parts sum₀ i₀ sum i = (i ≤ parts) × (sum ≤ i * 2_000_000_000) × ((f t : List ℕ) → sum ≡ total (outputs f t wh) i)
@@ -53,8 +53,8 @@ returns c =
     let all : l .i ≡ c .before .before .args .parts = omega arith in
     λ f t. rw all at (l .inv .2 f t)
 
-pub sum-of-spec : {M : Type 1} → statement M
-sum-of-spec =
+pub total-spec : {M : Type 1} → statement M
+total-spec =
     tie.close
     (tie.spec
     Inv-loop

@@ -1,0 +1,58 @@
+// The answers to the script that an input holds (docs/GUIDE.md, The console).
+use crate::printer;
+use crate::printer::Sent;
+use crate::printer::print;
+ghost use Prim.Native.Nat.{_+_, _≤_};
+ghost use mathlib.Core.Path.{_≡_};
+ghost use mathlib.Core.Bool.{false};
+ghost use lib.ListN.{length, take};
+ghost use Rattle.account.specs.Account.{account};
+ghost use Rattle.script.specs.Input.{scriptMost, scriptOf};
+ghost use Rattle.session.specs.Lines.{session};
+ghost use Rattle.session.specs.Transcript.{longest};
+ghost use Rattle.session.specs.Script.{fresh, scriptText};
+
+// The answers to what was read into a buffer that has room for one byte more than a script. No other function calls `answer`.
+pub(crate) fn answer_read(
+    input: &[u8],
+    read: usize,
+    weights: &mut [u32],
+    marks: &mut [u8],
+    counts: &mut [u64],
+    out: &mut [u8],
+) -> Sent
+    requires { ⌜ (length (now input) ≡ scriptMost + 1) × (read ≤ length (now input)) × (session 0 (account (now weights) (now marks) (now counts)) ≡ fresh) × (longest ≤ length (now out)) ⌝ }
+    ensures { λ r. ⌜ (r .failed ≡ false → r .bytes ≡ length (scriptText (scriptOf (take read (now (input .entry)))))) ⌝ }
+{
+    answer(&input[..read], weights, marks, counts, out)
+}
+
+// The answers of an input's whole lines, gathered in out and printed when it may not hold one more; all of them, if no write fails.
+fn answer(
+    input: &[u8],
+    weights: &mut [u32],
+    marks: &mut [u8],
+    counts: &mut [u64],
+    out: &mut [u8],
+) -> Sent
+    requires { ⌜ (session 0 (account (now weights) (now marks) (now counts)) ≡ fresh) × (longest ≤ length (now out)) ⌝ }
+    ensures { λ r. ⌜ (r .failed ≡ false → r .bytes ≡ length (scriptText (scriptOf (now (input .entry))))) ⌝ }
+{
+    let end = script::whole_lines(input);
+    let mut at = 0;
+    let mut done = 0;
+    let mut days = 0;
+    let mut sent = printer::nothing();
+    while at < end {
+        let ran = session::run(&input[..end], at, done, days, weights, marks, counts, out);
+        let length = ran.length;
+        sent = print(input, sent, &out[..length]);
+        if sent.failed() {
+            return sent;
+        }
+        at = ran.at;
+        done = ran.done;
+        days = ran.days;
+    }
+    sent
+}
