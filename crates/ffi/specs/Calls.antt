@@ -8,9 +8,9 @@ use lib.ListN.{length}
 use Rattle.profile.specs.Rows.{ifDone}
 use Rattle.profile.specs.Limits.{weightLeast, weightMost}
 use Rattle.profile.specs.Coefficients.{profileOf}
-use Rattle.profile.specs.Value.{valueLow, valueHigh}
+use Rattle.profile.specs.Value.{EnclosedPower, valueLow, valueHigh}
 use Rattle.profile.specs.Weight.{weightOf, floorWeight}
-use Rattle.profile.specs.Answers.{valueNumber, weightNumber, Enclosed}
+use Rattle.profile.specs.Answers.{valueNumber, weightNumber}
 use Rattle.weights.specs.Temperature.{temperatureNumber, temperaturePlace, temperatureValue}
 use Rattle.weights.specs.Choose.{Series, Measured, Forecast, Neither, choice}
 use Rattle.weights.specs.Weights.{ruling, Bounded}
@@ -58,7 +58,7 @@ pub record ValueReturned (k : ℕ) (t : ℤ) (r : Values) : Type 0 where
   pub places : r .place ≡ 0
   pub low : r .low ≡ ifDone (valueNumber k t) (valueLow (profileOf k) t) (pos 0)
   pub high : r .high ≡ ifDone (valueNumber k t) (valueHigh (profileOf k) t) (pos 0)
-  pub powers-enclose : valueNumber k t ≡ 0 → Enclosed k t
+  pub powers-enclose : valueNumber k t ≡ 0 → EnclosedPower (profileOf k) t
 
 pub record WeightReturned (k weekday : ℕ) (t : ℤ) (r : Outcome) : Type 0 where
   pub answers : r .number ≡ weightNumber k weekday t

@@ -61,15 +61,11 @@ highGiven (Valued.Value low high) = high
 highGiven Valued.NoProfile = pos 0
 highGiven Valued.OutOfRange = pos 0
 
--- the powers of profile k at temperature t enclose the exact one
-abbrev pub Enclosed : ℕ → ℤ → Type 0
-Enclosed k t = EnclosedPower (profileOf k) t
-
 pub record ValueMet (k : ℕ) (t : ℤ) (r : ValueAnswer) : Type 0 where
   pub answers : valueAnswered r ≡ valueNumber k t
   pub low : lowGiven r ≡ ifDone (valueNumber k t) (valueLow (profileOf k) t) (pos 0)
   pub high : highGiven r ≡ ifDone (valueNumber k t) (valueHigh (profileOf k) t) (pos 0)
-  pub powers-enclose : valueNumber k t ≡ 0 → Enclosed k t
+  pub powers-enclose : valueNumber k t ≡ 0 → EnclosedPower (profileOf k) t
 
 -- ---- day weight
 abbrev pub weightNumber : ℕ → ℕ → ℤ → ℕ

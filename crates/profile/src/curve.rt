@@ -36,7 +36,7 @@ pub(crate) fn values_at(profile: u8, t: i16) -> Values
     requires { ⌜ (profile < profileCount) × (inRange t ≡ true) ⌝ }
     ensures { λ r. ⌜ ValuesMet profile t (r .low) (r .high) ⌝ }
 {
-    let p = table::row(profile);
+    let p = table::profile_at(profile);
     let s = both_shares(p, t);
     let rest = linear_at(p, t);
     Values {
@@ -49,7 +49,7 @@ pub(crate) fn weight_at(profile: u8, weekday: u8, t: i16) -> u32
     requires { ⌜ (profile < profileCount) × (weekday < 7) × (inRange t ≡ true) ⌝ }
     ensures { λ r. ⌜ r ≡ weightOf profile weekday t ⌝ }
 {
-    let p = table::row(profile);
+    let p = table::profile_at(profile);
     let low = curve_down(p.a, low_share(p, t)) + linear_at(p, t);
     let factor = p.factors[weekday as usize] as u64;
     (low as u64 * factor / 10_000_000) as u32

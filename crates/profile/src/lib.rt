@@ -85,7 +85,7 @@ impl Profile {
         }
         Numbered {
             refusal: 0,
-            profile: table::row(n),
+            profile: table::profile_at(n),
         }
     }
 }

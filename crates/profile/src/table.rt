@@ -129,7 +129,7 @@ const TABLE: [Profile; 10] = [
     },
 ];
 
-pub(crate) fn row(profile: u8) -> Profile
+pub(crate) fn profile_at(profile: u8) -> Profile
     requires { ⌜ profile < profileCount ⌝ }
     ensures { λ r. ⌜ r ≡ profileOf profile ⌝ }
 {

@@ -15,7 +15,7 @@ use Rattle.account.specs.Refusals.{accountRows}
 use Rattle.statement.specs.declared.StatementAnswer.the-variants.{Parts, Unfit, Unsound, TooFewReadings}
 use Rattle.statement.specs.Parts.{Outputs}
 use Rattle.statement.specs.Call.{StatementMet, unfitOutputs, zeroed}
-use Rattle.statement.specs.Progress.{Checked, Ready, Filled}
+use Rattle.statement.specs.Progress.{Checked, Fillable, Filled}
 use Rattle.statement.proofs.CodeSound.{checked-fit}
 use Rattle.statement.proofs.CodeWritten.{Long, outputs-same}
 
@@ -80,7 +80,7 @@ module _ (a : Account) (o : Outputs) where
       let more = le-ltb _ _ some in
       record { answers = rw (c .fits, f, c .good, more); gives = rw (c .fits, f, c .good, more) (h .how-many); stays = refl; writes = rw (c .fits, f, c .good, more) (h .holds) }
 
-  pub ready : Long (days a) o → Checked a → 2 ≤ howMany (shown a .readings .at) (suc (days a)) → (o′ : Outputs) → o′ ≡ zeroed o → Ready a o′
+  pub ready : Long (days a) o → Checked a → 2 ≤ howMany (shown a .readings .at) (suc (days a)) → (o′ : Outputs) → o′ ≡ zeroed o → Fillable a o′
   ready l c some o′ clear =
       let zeros : (m : ℕ) → m ≡ days a → replicate {A = ℕ} m 0 ≡ replicate (days a - 0) 0 = λ m is. ap (λ (x : ℕ). replicate {A = ℕ} x 0) (is ∙ sym (sub-zero (days a))) in
       record {

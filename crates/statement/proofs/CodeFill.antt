@@ -12,7 +12,7 @@ use Rattle.account.specs.Slices.{Fit}
 use Rattle.account.proofs.Below.{IsFirst, IsLast, clash, found, first-is, last-is}
 use Rattle.statement.specs.declared.Progress.{Progress}
 use Rattle.statement.specs.Parts.{Outputs}
-use Rattle.statement.specs.Progress.{NextReading, Checked, Interval, Written, Ready, Filled}
+use Rattle.statement.specs.Progress.{NextReading, Checked, Interval, Written, Fillable, Filled}
 use Rattle.statement.proofs.CodeSound.{checked-fit}
 use Rattle.statement.proofs.CodeWritten.{Long, written-first, written-last, written-long}
 
@@ -34,13 +34,13 @@ pub record Reached (a : Account) (q : ℕ) (o : Outputs) (d : Progress) : Type 0
   pub so-far : Written (a .weights) (shown a) (d .start + 1) o d
 
 -- where there is a reading, the search from boundary 0 finds one
-pub first-there : (a : Account) (o : Outputs) → Ready a o → (p : ℕ) → NextReading (a .marks) 0 p → p ≤ days a
+pub first-there : (a : Account) (o : Outputs) → Fillable a o → (p : ℕ) → NextReading (a .marks) 0 p → p ≤ days a
 first-there a o h p is =
     let some = found (shown a .readings .at) (suc (days a)) (h .has-reading) in
     let late : days a < p → ⊥ = λ past. clash (some .2) (is .none-before (some .0) (omega arith) (omega (arith, some .1))) in
     omega arith
 
-pub reached-first : (a : Account) (o : Outputs) → Ready a o → (p q : ℕ) → NextReading (a .marks) 0 p → NextReading (a .marks) (p + 1) q →
+pub reached-first : (a : Account) (o : Outputs) → Fillable a o → (p q : ℕ) → NextReading (a .marks) 0 p → NextReading (a .marks) (p + 1) q →
     Reached a q o (record { start = p; value = getD (a .counts) p 0; parts = 0 })
 reached-first a o h p q is after =
     let within = first-there a o h p is in

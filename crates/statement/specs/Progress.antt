@@ -55,7 +55,7 @@ pub record Interval (a : Account) (q : ℕ) (o : Outputs) (d : Progress) : Type 
   pub so-far : Written (a .weights) (shown a) (d .start + 1) o d
 
 -- a checked account with a reading, and outputs that are zero
-pub record Ready (a : Account) (o : Outputs) : Type 0 where
+pub record Fillable (a : Account) (o : Outputs) : Type 0 where
   pub checked : Checked a
   pub has-reading : 0 < howMany (shown a .readings .at) (suc (days a))
   pub clear : o ≡ written (days a) []

@@ -12,7 +12,7 @@ ghost use Rattle.account.specs.Account.{account, shown};
 ghost use Rattle.statement.specs.Split.{weightSum, shareOf};
 ghost use Rattle.statement.specs.Parts.{outputs};
 ghost use Rattle.statement.specs.Call.{StatementMet};
-ghost use Rattle.statement.specs.Progress.{Summable, Splittable, Addable, withPart, nextPart, Interval, Written, Ready, Filled};
+ghost use Rattle.statement.specs.Progress.{Summable, Splittable, Addable, withPart, nextPart, Interval, Written, Fillable, Filled};
 
 // What a statement answers: the number of its parts, or a row of the table.
 pub enum StatementAnswer {
@@ -154,7 +154,7 @@ fn fill(
     to: &mut [u16],
     wh: &mut [u64],
 ) -> usize
-    requires { ⌜ Ready (account (now weights) (now marks) (now counts)) (outputs (now from) (now to) (now wh)) ⌝ }
+    requires { ⌜ Fillable (account (now weights) (now marks) (now counts)) (outputs (now from) (now to) (now wh)) ⌝ }
     ensures { λ r. ⌜ Filled (account (now (weights .entry)) (now (marks .entry)) (now (counts .entry))) (outputs (now (from .exit)) (now (to .exit)) (now (wh .exit))) r ⌝ }
 {
     let n = weights.len();

@@ -46,10 +46,10 @@ pub record Ruling : Type 0 where
 
 abbrev pub ruling : ℕ → ℕ → List ℤ → List ℕ → Ruling
 ruling profile weekday means before =
-    row (unfit means before) (record { number = 3; place = 0; memory = before })
-    (row (leb profileCount profile) (record { number = 1; place = 0; memory = zeros before })
-    (row (ltb 6 weekday) (record { number = 2; place = 0; memory = zeros before })
-    (row (someOut means) (record { number = 4; place = firstOut means; memory = zeros before })
+    row (unfit means before) (record { number = 3; place = 0; memory = before })  -- n outside 1 to 1,096, or a lent length unfit
+    (row (leb profileCount profile) (record { number = 1; place = 0; memory = zeros before })  -- profile above 9
+    (row (ltb 6 weekday) (record { number = 2; place = 0; memory = zeros before })  -- weekday above 6
+    (row (someOut means) (record { number = 4; place = firstOut means; memory = zeros before })  -- first mean out of range
     (record { number = 0; place = 0; memory = weightsOf profile weekday means }))))
 
 -- an answer's number in the table (0: done), and its index

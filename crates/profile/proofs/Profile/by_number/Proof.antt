@@ -25,19 +25,19 @@ returns c =
       (search needs, search needs),
     )
 
-row-requires : tie.Need-row-requires
-row-requires c κs = search needs
+profile-at-requires : tie.Need-profile-at-requires
+profile-at-requires c κs = search needs
 
 returns-2 : tie.Need-returns-2
 returns-2 c =
     let test = lt-leb _ _ (c .before .if1 .left) in (
       record {
         answers = simp test;
-        gives = c .row .ensures;
-        week = λ e. rw (c .row .ensures) (profile-tested (c .before .before .args .n) (c .before .if1 .left) .week);
+        gives = c .profile-at .ensures;
+        week = λ e. rw (c .profile-at .ensures) (profile-tested (c .before .before .args .n) (c .before .if1 .left) .week);
       },
       (search needs, search needs),
     )
 
 pub by-number-spec : {M : Type 1} → statement M
-by-number-spec = tie.close (tie.spec returns row-requires returns-2)
+by-number-spec = tie.close (tie.spec returns profile-at-requires returns-2)

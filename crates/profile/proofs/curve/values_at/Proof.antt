@@ -17,8 +17,8 @@ use Rattle.profile.proofs.Bounds.{low-share-le, high-share-le, low-fits
 use Rattle.profile.proofs.curve.values_at.Statement.{statement}
 use Rattle.profile.proofs.curve.values_at.Tie as tie
 
-row-requires : tie.Need-row-requires
-row-requires c κs = search needs
+profile-at-requires : tie.Need-profile-at-requires
+profile-at-requires c κs = search needs
 
 both-shares-requires : tie.Need-both-shares-requires
 both-shares-requires c κs = search needs
@@ -26,23 +26,23 @@ both-shares-requires c κs = search needs
 linear-at-requires : tie.Need-linear-at-requires
 linear-at-requires c κs = search needs
 
-small : (c : tie.After-row) → c .row .result .a < 2 ^ 24
-small c = rw (c .row .ensures) (profile-tested (c .before .args .profile) (c .before .pre .0) .small)
+small : (c : tie.After-profile-at) → c .profile-at .result .a < 2 ^ 24
+small c = rw (c .profile-at .ensures) (profile-tested (c .before .args .profile) (c .before .pre .0) .small)
 
-shares : (c : tie.After-both-shares) → SharesMet (c .before .row .result) (c .before .before .args .t) (c .both-shares .result .low) (c .both-shares .result .high)
+shares : (c : tie.After-both-shares) → SharesMet (c .before .profile-at .result) (c .before .before .args .t) (c .both-shares .result .low) (c .both-shares .result .high)
 shares c = simp (toZ-ofZ (c .before .before .fits .t)) at (c .both-shares .ensures)
 
-rest : (c : tie.After-linear-at) → c .linear-at .result ≡ linear (c .before .before .row .result) (c .before .before .before .args .t)
+rest : (c : tie.After-linear-at) → c .linear-at .result ≡ linear (c .before .before .profile-at .result) (c .before .before .before .args .t)
 rest c = simp (toZ-ofZ (c .before .before .before .fits .t)) at (c .linear-at .ensures)
 
 -- a share is at most one
 low-small : (c : tie.After-both-shares) → c .both-shares .result .low ≤ 2 ^ 30
 unfolding one
-low-small c = rw (shares c .low-is) (low-share-le (c .before .row .result) (c .before .before .args .t))
+low-small c = rw (shares c .low-is) (low-share-le (c .before .profile-at .result) (c .before .before .args .t))
 
 high-small : (c : tie.After-both-shares) → c .both-shares .result .high ≤ 2 ^ 30
 unfolding one
-high-small c = rw (shares c .high-is) (high-share-le (c .before .row .result) (c .before .before .args .t))
+high-small c = rw (shares c .high-is) (high-share-le (c .before .profile-at .result) (c .before .before .args .t))
 
 curve-down-requires : tie.Need-curve-down-requires
 curve-down-requires c κs = omega (arith, small (c .before .before), low-small (c .before))
@@ -50,8 +50,8 @@ curve-down-requires c κs = omega (arith, small (c .before .before), low-small (
 low : (c : tie.After-curve-down) → c .curve-down .result +ℤ c .before .linear-at .result ≡ valueLow (profileOf (c .before .before .before .before .args .profile)) (c .before .before .before .before .args .t)
 low c =
     let t = c .before .before .before .before .args .t in
-    low-sum (c .before .before .before .row .result) t (shares (c .before .before) .low-is) (c .curve-down .ensures) (rest (c .before))
-    ∙ ap (λ (p : Profile). valueLow p t) (c .before .before .before .row .ensures)
+    low-sum (c .before .before .before .profile-at .result) t (shares (c .before .before) .low-is) (c .curve-down .ensures) (rest (c .before))
+    ∙ ap (λ (p : Profile). valueLow p t) (c .before .before .before .profile-at .ensures)
 
 add-t7 : tie.Need-add-t7
 add-t7 c =
@@ -65,8 +65,8 @@ curve-up-requires c κs = omega (arith, small (c .before .before .before), high-
 high : (c : tie.After-curve-up) → c .curve-up .result +ℤ c .before .before .linear-at .result ≡ valueHigh (profileOf (c .before .before .before .before .before .args .profile)) (c .before .before .before .before .before .args .t)
 high c =
     let t = c .before .before .before .before .before .args .t in
-    high-sum (c .before .before .before .before .row .result) t (shares (c .before .before .before) .high-is) (c .curve-up .ensures) (rest (c .before .before))
-    ∙ ap (λ (p : Profile). valueHigh p t) (c .before .before .before .before .row .ensures)
+    high-sum (c .before .before .before .before .profile-at .result) t (shares (c .before .before .before) .high-is) (c .curve-up .ensures) (rest (c .before .before))
+    ∙ ap (λ (p : Profile). valueHigh p t) (c .before .before .before .before .profile-at .ensures)
 
 add-t9 : tie.Need-add-t9
 add-t9 c =
@@ -91,7 +91,7 @@ pub values-at-spec : {M : Type 1} → statement M
 values-at-spec =
     tie.close
     (tie.spec
-    row-requires
+    profile-at-requires
     both-shares-requires
     linear-at-requires
     curve-down-requires

@@ -20,21 +20,21 @@ use Rattle.profile.proofs.Bounds.{low-share-le, low-natural, low-bounde
 use Rattle.profile.proofs.curve.weight_at.Statement.{statement}
 use Rattle.profile.proofs.curve.weight_at.Tie as tie
 
-row-requires : tie.Need-row-requires
-row-requires c κs = search needs
+profile-at-requires : tie.Need-profile-at-requires
+profile-at-requires c κs = search needs
 
 low-share-requires : tie.Need-low-share-requires
 low-share-requires c κs = search needs
 
-share : (c : tie.After-low-share) → c .low-share .result ≡ sLow (c .before .row .result) (c .before .before .args .t)
+share : (c : tie.After-low-share) → c .low-share .result ≡ sLow (c .before .profile-at .result) (c .before .before .args .t)
 share c = simp (toZ-ofZ (c .before .before .fits .t)) at (c .low-share .ensures)
 
 curve-down-requires : tie.Need-curve-down-requires
 unfolding one
 curve-down-requires c κs =
     let q = c .before .before in (
-      rw (c .before .row .ensures) (profile-tested (q .args .profile) (q .pre .0) .small),
-      rw (share c) (low-share-le (c .before .row .result) (q .args .t)),
+      rw (c .before .profile-at .ensures) (profile-tested (q .args .profile) (q .pre .0) .small),
+      rw (share c) (low-share-le (c .before .profile-at .result) (q .args .t)),
     )
 
 linear-at-requires : tie.Need-linear-at-requires
@@ -43,9 +43,9 @@ linear-at-requires c κs = search needs
 low : (c : tie.After-linear-at) → c .before .curve-down .result +ℤ c .linear-at .result ≡ valueLow (profileOf (c .before .before .before .before .args .profile)) (c .before .before .before .before .args .t)
 low c =
     let q = c .before .before .before .before in
-    low-sum (c .before .before .before .row .result) (q .args .t) (share (c .before .before)) (c .before .curve-down .ensures)
+    low-sum (c .before .before .before .profile-at .result) (q .args .t) (share (c .before .before)) (c .before .curve-down .ensures)
     (simp (toZ-ofZ (q .fits .t)) at (c .linear-at .ensures))
-    ∙ ap (λ (p : Profile). valueLow p (q .args .t)) (c .before .before .before .row .ensures)
+    ∙ ap (λ (p : Profile). valueLow p (q .args .t)) (c .before .before .before .profile-at .ensures)
 
 add-low : tie.Need-add-low
 add-low c =
@@ -98,20 +98,20 @@ small c =
 
 mul-result : tie.Need-mul-result
 mul-result c =
-    simp (read (c .before), c .before .before .before .before .row .ensures) (record { fits = omega (arith, small c) })
+    simp (read (c .before), c .before .before .before .before .profile-at .ensures) (record { fits = omega (arith, small c) })
 
 cast-result-2 : tie.Need-cast-result-2
 cast-result-2 c =
-    simp (read (c .before), c .before .before .before .before .row .ensures) (record { fits = omega (arith, small c) })
+    simp (read (c .before), c .before .before .before .before .profile-at .ensures) (record { fits = omega (arith, small c) })
 
 returns : tie.Need-returns
-returns c = simp (read (c .before), c .before .before .before .before .row .ensures) (weight c)
+returns c = simp (read (c .before), c .before .before .before .before .profile-at .ensures) (weight c)
 
 pub weight-at-spec : {M : Type 1} → statement M
 weight-at-spec =
     tie.close
     (tie.spec
-    row-requires
+    profile-at-requires
     low-share-requires
     curve-down-requires
     linear-at-requires

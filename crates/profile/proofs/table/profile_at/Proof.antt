@@ -1,10 +1,10 @@
--- `profile::row` meets its contract: the code's table is that of the definitions, by computation.
+-- `profile::table::profile_at` meets its contract: the code's table is that of the definitions, by computation.
 -- Assumes nothing.
 use borrow.Author.Needs.{needs}
 use Rattle.profile.specs.Coefficients.{table, noProfile, profileOf}
 use Rattle.profile.proofs.Tested.{getD-any}
-use Rattle.profile.proofs.table.row.Statement.{statement}
-use Rattle.profile.proofs.table.row.Tie as tie
+use Rattle.profile.proofs.table.profile_at.Statement.{statement}
+use Rattle.profile.proofs.table.profile_at.Tie as tie
 
 mul-result : tie.Need-mul-result
 mul-result c = search needs
@@ -16,5 +16,5 @@ returns : tie.Need-returns
 unfolding profileOf
 returns c = getD-any table (c .before .args .profile) _ noProfile (c .before .pre)
 
-pub row-spec : {M : Type 1} → statement M
-row-spec = tie.close (tie.spec mul-result array-copy-out-result returns)
+pub profile-at-spec : {M : Type 1} → statement M
+profile-at-spec = tie.close (tie.spec mul-result array-copy-out-result returns)
