@@ -4,10 +4,12 @@
     python3 tools/faults.py [CRATE ..]
 
 An edit of the gate holds several faults of its crate, at most one in a function, each after a line `# NAME: what is wrong`. The gate shows
-that every edit is refused. This copies the repository, makes an edit of each fault, and has `rt must-fail` try them all, which takes
-much longer than the gate.
+that every edit is refused, proved from nothing. This makes one fault after the other in copies of the repository and has `rt dev` check the
+crate, which checks again only what the fault touches: each must be refused, and not because a proof no longer fits the code's form.
 """
+import concurrent.futures
 import os
+import queue
 import re
 import shutil
 import subprocess
@@ -15,28 +17,86 @@ import sys
 import tempfile
 
 ROOT = os.path.dirname(os.path.dirname(os.path.abspath(__file__)))
+# What the prover says where an edit changed the needs of a function, so that its proof file does not fit any more.
+UNFIT = "that can be named from here"
 
 
-def faults(text):
-    """The faults of an edit: name and lines of each."""
-    for block in re.split(r"(?m)^(?=# )", text)[1:]:
-        yield re.match(r"# ([\w-]+):", block).group(1), block
+def faults(crate):
+    """The faults of a crate's edits: name, and for each its files with the texts to exchange."""
+    folder = os.path.join(ROOT, "crates", crate, "must-fail")
+    for name in sorted(os.listdir(folder)) if os.path.isdir(folder) else []:
+        with open(os.path.join(folder, name), encoding="utf-8") as file:
+            text = file.read()
+        for block in re.split(r"(?m)^(?=# )", text)[1:]:
+            pairs, path, old = [], None, None
+            for line in block.splitlines():
+                kind, _, rest = line.partition(": ")
+                if kind == "file":
+                    path = rest
+                elif kind == "old":
+                    old = rest
+                elif kind.rstrip(":") == "new":
+                    pairs.append((path, old, rest))
+            yield re.match(r"# ([\w-]+):", block).group(1), pairs
+
+
+def check(copy, crate):
+    """Whether the crate is proved, and the first thing that is wrong."""
+    done = subprocess.run(["rt", "dev", crate], cwd=copy, capture_output=True, text=True)
+    wrong = [line for line in (done.stdout + done.stderr).splitlines() if ": error:" in line or "not proved" in line]
+    return done.returncode == 0, wrong[0].replace(copy + "/", "") if wrong else "no error was printed"
+
+
+def with_fault(copy, crate, pairs):
+    """Checks the crate with these texts exchanged, and puts them back."""
+    kept = {}
+    for path, old, new in pairs:
+        place = os.path.join(copy, "crates", crate, path)
+        with open(place, encoding="utf-8") as file:
+            text = file.read()
+        kept.setdefault(place, text)
+        if text.count(old) != 1:
+            raise SystemExit(f"{crate}: {old!r} is not once in {path}")
+        with open(place, "w", encoding="utf-8") as file:
+            file.write(text.replace(old, new))
+    try:
+        return check(copy, crate)
+    finally:
+        for place, text in kept.items():
+            with open(place, "w", encoding="utf-8") as file:
+                file.write(text)
+
+
+def try_crate(copies, crate):
+    """The number of faults of a crate, and how many of them were not refused by a fact."""
+    copy = copies.get()
+    count = missed = 0
+    if not check(copy, crate)[0]:
+        raise SystemExit(f"{crate} is not proved as it is")
+    for name, pairs in faults(crate):
+        proved, first = with_fault(copy, crate, pairs)
+        verdict = "NOT REFUSED" if proved else "UNFIT" if UNFIT in first else "refused"
+        count, missed = count + 1, missed + (verdict != "refused")
+        print(f"{crate}/{name}: {verdict} ({first[:110]})", flush=True)
+    copies.put(copy)
+    return count, missed
 
 
 def main(crates):
-    with tempfile.TemporaryDirectory() as scratch:
-        copy = os.path.join(scratch, "copy")
-        shutil.copytree(ROOT, copy, ignore=shutil.ignore_patterns(".git", "reference"), symlinks=True)
-        for crate in os.listdir(os.path.join(copy, "crates")):
-            folder = os.path.join(copy, "crates", crate, "must-fail")
-            for name in os.listdir(folder) if os.path.isdir(folder) else []:
-                with open(os.path.join(folder, name), encoding="utf-8") as file:
-                    text = file.read()
-                os.remove(os.path.join(folder, name))
-                for label, block in faults(text) if not crates or crate in crates else []:
-                    with open(os.path.join(folder, label + ".edit"), "w", encoding="utf-8") as file:
-                        file.write(block)
-        return subprocess.call(["rt", "must-fail", *crates], cwd=copy)
+    if not crates:
+        with open(os.path.join(ROOT, "crates.txt"), encoding="utf-8") as file:
+            crates = [line.split(":")[0] for line in file if ":" in line and not line.startswith("#")]
+    crates = sorted((crate for crate in crates if list(faults(crate))), key=lambda crate: -len(list(faults(crate))))
+    with tempfile.TemporaryDirectory() as scratch, concurrent.futures.ThreadPoolExecutor(os.cpu_count()) as pool:
+        copies = queue.Queue()
+        for number in range(os.cpu_count()):
+            copy = os.path.join(scratch, str(number))
+            shutil.copytree(ROOT, copy, ignore=shutil.ignore_patterns(".git", "reference"), symlinks=True)
+            copies.put(copy)
+        results = list(pool.map(lambda crate: try_crate(copies, crate), crates))
+    count, missed = (sum(column) for column in zip(*results))
+    print(f"{count - missed} refused, {missed} not")
+    return missed != 0
 
 
 if __name__ == "__main__":
