@@ -1,4 +1,5 @@
 // The answers to the script that an input holds (docs/GUIDE.md, The console).
+use crate::input::Input;
 use crate::printer;
 use crate::printer::Sent;
 use crate::printer::print;
@@ -12,19 +13,20 @@ ghost use Rattle.session.specs.Lines.{session};
 ghost use Rattle.session.specs.Transcript.{longest};
 ghost use Rattle.session.specs.Script.{fresh, scriptText};
 
-// The answers to what was read into a buffer that has room for one byte more than a script. No other function calls `answer`.
+// The answers to what was read, which has room for one byte more than a script. No other function calls `answer`.
 pub(crate) fn answer_read(
-    input: &[u8],
-    read: usize,
+    input: Input,
     weights: &mut [u32],
     marks: &mut [u8],
     counts: &mut [u64],
     out: &mut [u8],
 ) -> Sent
-    requires { ⌜ (length (now input) ≡ scriptMost + 1) × (read ≤ length (now input)) × (session 0 (account (now weights) (now marks) (now counts)) ≡ fresh) × (longest ≤ length (now out)) ⌝ }
-    ensures { λ r. ⌜ (r .failed ≡ false → r .bytes ≡ length (scriptText (scriptOf (take read (now (input .entry)))))) ⌝ }
+    requires { ⌜ (length (input .buffer) ≡ scriptMost + 1) × (input .read ≤ scriptMost + 1) × (session 0 (account (now weights) (now marks) (now counts)) ≡ fresh) × (longest ≤ length (now out)) ⌝ }
+    ensures { λ r. ⌜ (r .failed ≡ false → r .bytes ≡ length (scriptText (scriptOf (take (input .read) (input .buffer))))) ⌝ }
 {
-    answer(&input[..read], weights, marks, counts, out)
+    let buffer = input.buffer();
+    let read = input.length();
+    answer(&buffer[..read], weights, marks, counts, out)
 }
 
 // The answers of an input's whole lines, gathered in out and printed when it may not hold one more; all of them, if no write fails.

@@ -1,18 +1,17 @@
 // The console: runs a script of calls from standard input on an account, and prints each answer. Of an input of more than 65,536 bytes only
 // the lines that end within those are run, so that none is cut.
 mod answers;
+mod input;
 mod printer;
 
 use libc::STDIN_FILENO;
 use profile::Profile;
-use script::SCRIPT_MOST;
 
 fn main() {
-    let mut input = [0u8; SCRIPT_MOST + 1];
-    let n = io::read_full(STDIN_FILENO, &mut input);
+    let input = input::read(STDIN_FILENO);
     let mut weights = [0u32; Profile::SPAN];
     let mut marks = [0u8; Profile::SPAN + 1];
     let mut counts = [0u64; Profile::SPAN + 1];
     let mut out = [0u8; 73_414];
-    answers::answer_read(&input, n, &mut weights, &mut marks, &mut counts, &mut out);
+    answers::answer_read(input, &mut weights, &mut marks, &mut counts, &mut out);
 }

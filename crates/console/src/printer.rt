@@ -2,11 +2,11 @@
 use libc::STDOUT_FILENO;
 ghost use Prim.Native.Nat.{_+_};
 ghost use mathlib.Core.Path.{_≡_};
-ghost use mathlib.Core.Bool.{false};
+ghost use mathlib.Core.Bool.{false, not};
 ghost use lib.ListN.{length};
 ghost use Rattle.session.specs.Script.{Continues};
 
-// How many bytes were handed to a write, and whether one failed. Its fields are private: only `print` can count.
+// How many bytes were handed to a write, and whether one failed. Its fields are private: only `nothing` and `counted` make one.
 pub(crate) struct Sent {
     bytes: usize,
     failed: bool,
@@ -35,8 +35,15 @@ pub(crate) fn print(input: &[u8], sent: Sent, piece: &[u8]) -> Sent
     ensures { λ r. ⌜ r .bytes ≡ sent .bytes + length (now (piece .entry)) ⌝ }
 {
     let bytes = sent.bytes + piece.len();
+    counted(bytes, io::write_all(STDOUT_FILENO, piece))
+}
+
+// So many bytes handed to a write, the last of them with this answer.
+fn counted(bytes: usize, wrote: bool) -> Sent
+    ensures { λ r. ⌜ (r .bytes ≡ bytes) × (r .failed ≡ not wrote) ⌝ }
+{
     Sent {
         bytes,
-        failed: !io::write_all(STDOUT_FILENO, piece),
+        failed: !wrote,
     }
 }

@@ -2,7 +2,7 @@
 
 use crate::checks::{Account, File, Input, Outputs};
 use crate::random::Random;
-use model::console::MOST_BYTES;
+use additions::console::MOST_BYTES;
 use model::history::Call;
 use model::{Boundary, Mean, ProfileNumber, Weekday, LARGEST_BOUNDARY};
 

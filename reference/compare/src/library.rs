@@ -1,5 +1,6 @@
 //! The exported calls of the paper as one trait, for the model and the straight versions; the proved one is beside.
 
+use additions::texts::{lay_out, statement_text};
 use model::{account, casefile, customer, statement, temperature, value};
 use model::{Answer, Boundary, Mean, ProfileNumber, Weekday};
 
@@ -29,10 +30,10 @@ pub trait Library {
     fn daily_amount(&self, value: u64, weight: u32) -> (Answer, u64);
     fn read(&self, file: &[u8], weights: &mut [u32], marks: &mut [u8], counts: &mut [u64]) -> (Answer, usize);
     fn statement_text(&self, from: &[u16], to: &[u16], wh: &[u64], parts: usize, out: &mut [u8]) -> usize {
-        statement::lay_out(&statement::text(from, to, wh, parts), out)
+        lay_out(&statement_text(from, to, wh, parts), out)
     }
     fn refusal_text(&self, number: u8, place: usize, out: &mut [u8]) -> usize {
-        statement::lay_out(&statement::refusal_text(Answer { number, place }), out)
+        lay_out(&statement::refusal_text(Answer { number, place }), out)
     }
 }
 

@@ -48,5 +48,5 @@ pub fn statement(program: &str, runs: u64, seed: u64, report: impl FnMut(String)
 }
 
 pub fn console(program: &str, runs: u64, seed: u64, report: impl FnMut(String)) {
-    compare(program, runs, seed, inputs::script, model::console::console, report);
+    compare(program, runs, seed, inputs::script, additions::console::console, report);
 }

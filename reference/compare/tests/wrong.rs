@@ -1,11 +1,11 @@
 //! Sections "Buyer's note on contracts" and "Errors seen in other houses": the comparison finds each wrong library.
 
+use additions::texts::lay_out;
 use compare::checks::Input;
 use compare::demand3;
 use compare::library::{compared, Library, Model};
 use compare::programs;
 use compare::run::{compare, input, one, Tally};
-use model::statement::lay_out;
 use model::{refused, Answer, Boundary, Mean, ProfileNumber, Weekday, DONE};
 use std::cell::RefCell;
 

@@ -2,7 +2,6 @@
 
 pub mod account;
 pub mod casefile;
-pub mod console;
 pub mod customer;
 pub mod history;
 pub mod power;

@@ -1,8 +1,7 @@
 //! Section "Account and its calls", the statement: parts between marked boundaries, written into lent slices; and
 //! section "Case file", how a statement and a refusal are printed.
 
-use crate::account::{lengths_fit, readings, sound, MOST_ENERGY, READING};
-use crate::profile::Profile;
+use crate::account::{lengths_fit, readings, sound, READING};
 use crate::{nearest, refused, Answer, DONE};
 
 fn sum(weights: &[u32]) -> i128 {
@@ -62,12 +61,8 @@ pub fn statement(
     (DONE, parts.len())
 }
 
-/// The statement as the programs print it: the number of parts, a line for each, their sum; empty for what no
-/// statement can be.
+/// A statement of so many parts as the program prints it: their number, a line for each, their sum.
 pub fn text(from: &[u16], to: &[u16], wh: &[u64], parts: usize) -> String {
-    if impossible(from, to, wh, parts) {
-        return String::new();
-    }
     let mut text = format!("parts {parts}\n");
     for i in 0..parts {
         text += &format!("{} {} {}\n", from[i], to[i], wh[i]);
@@ -75,22 +70,7 @@ pub fn text(from: &[u16], to: &[u16], wh: &[u64], parts: usize) -> String {
     text + &format!("sum {}\n", wh[..parts].iter().sum::<u64>())
 }
 
-/// A refusal as the programs print it.
+/// A refusal as the program prints it.
 pub fn refusal_text(answer: Answer) -> String {
     format!("refused {} {}\n", answer.number, answer.place)
-}
-
-/// Stores a text at the start of a lent buffer, as much of it as fits, and returns the length of the whole text. The
-/// paper has no such call.
-pub fn lay_out(text: &str, out: &mut [u8]) -> usize {
-    let fitting = text.len().min(out.len());
-    out[..fitting].copy_from_slice(&text.as_bytes()[..fitting]);
-    text.len()
-}
-
-/// What no statement can be: no part, more parts than these slices or the longest span hold, or a part above
-/// 2,000,000,000 Wh.
-pub fn impossible(from: &[u16], to: &[u16], wh: &[u64], parts: usize) -> bool {
-    let longest = from.len().min(to.len()).min(wh.len()).min(Profile::LONGEST);
-    parts == 0 || parts > longest || wh[..parts].iter().any(|part| *part > MOST_ENERGY)
 }

@@ -2,7 +2,6 @@
 
 use model::account::reading;
 use model::casefile::{program, read};
-use model::console::console;
 use model::history::{Call, Standing};
 use model::statement::statement;
 use model::value::{day_weight, value, weights};
@@ -129,15 +128,4 @@ fn the_longest_file() {
     assert_eq!(program(&file), "refused 13 15370\n");
     file.extend([0; 9_000]);
     assert_eq!(program(&file), "refused 13 15370\n");
-}
-
-/// The console, no part of the paper: the whole line is judged first.
-#[test]
-fn a_bad_word_past_the_longest_span() {
-    let line = |head: &str, words: usize, last: &str| format!("{head}{} {last}\n", " 1".repeat(words));
-    for (head, words) in [("weights", 1_096), ("weights", 1_200), ("days 0 0", 1_099), ("days 0 0", 1_200)] {
-        assert_eq!(console(line(head, words, "1").as_bytes()), "refused 3 0\n");
-        assert_eq!(console(line(head, words, "x").as_bytes()), "unknown 1\n");
-        assert_eq!(console(line(head, words, "1 x").as_bytes()), "unknown 1\n");
-    }
 }

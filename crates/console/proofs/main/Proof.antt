@@ -5,11 +5,8 @@ use borrow.Author.Needs.{needs}
 use Rattle.console.proofs.main.Statement.{statement}
 use Rattle.console.proofs.main.Tie as tie
 
-slice-aggregate-read-full : tie.Need-slice-aggregate-read-full
-slice-aggregate-read-full c = search needs
-
-read-full-requires : tie.Need-read-full-requires
-read-full-requires c κs = search needs
+read-requires : tie.Need-read-requires
+read-requires c κs = search needs
 
 slice-aggregate-answer-read : tie.Need-slice-aggregate-answer-read
 slice-aggregate-answer-read c = search needs
@@ -23,9 +20,6 @@ slice-aggregate-answer-read-3 c = search needs
 slice-aggregate-answer-read-4 : tie.Need-slice-aggregate-answer-read-4
 slice-aggregate-answer-read-4 c = search needs
 
-slice-aggregate-answer-read-5 : tie.Need-slice-aggregate-answer-read-5
-slice-aggregate-answer-read-5 c = search needs
-
 answer-read-requires : tie.Need-answer-read-requires
 answer-read-requires c κs = (omega arith, omega arith, refl, search needs)
 
@@ -36,12 +30,10 @@ pub main-spec : {M : Type 1} → statement M
 main-spec =
     tie.close
     (tie.spec
-    slice-aggregate-read-full
-    read-full-requires
+    read-requires
     slice-aggregate-answer-read
     slice-aggregate-answer-read-2
     slice-aggregate-answer-read-3
     slice-aggregate-answer-read-4
-    slice-aggregate-answer-read-5
     answer-read-requires
     returns)

@@ -1,6 +1,6 @@
-//! Section "Account and its calls": the console of the model, a script from standard input.
+//! Over section "Account and its calls": the console in Rust, a script from standard input.
 
-use model::console::{console, MOST_BYTES};
+use additions::console::{console, MOST_BYTES};
 use std::io::{Read, Write};
 
 fn main() {

@@ -13,8 +13,11 @@ add-bytes c =
 write-all-requires : tie.Need-write-all-requires
 write-all-requires c κs = search needs
 
+counted-requires : tie.Need-counted-requires
+counted-requires c κs = search needs
+
 returns : tie.Need-returns
 returns c = search needs
 
 pub print-spec : {M : Type 1} → statement M
-print-spec = tie.close (tie.spec add-bytes write-all-requires returns)
+print-spec = tie.close (tie.spec add-bytes write-all-requires counted-requires returns)

@@ -1,7 +1,8 @@
 //! Section "Case file": the texts of a statement and of a refusal; and, beyond the paper, how they are laid out in a lent
 //! buffer and what has no text.
 
-use model::statement::{lay_out, refusal_text, statement, text};
+use additions::texts::{lay_out, statement_text as text};
+use model::statement::{refusal_text, statement};
 use model::{refused, refused_at};
 
 /// A buffer of sevens with a text laid out in it, and the length returned.

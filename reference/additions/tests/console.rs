@@ -1,7 +1,7 @@
 //! The console, no part of the paper, over section "Account and its calls": every call, every refusal that a script can
 //! reach, lines that are no calls, and the limit of a script.
 
-use model::console::console;
+use additions::console::console;
 
 fn run(script: &str) -> Vec<String> {
     console(script.as_bytes()).lines().map(str::to_string).collect()
@@ -210,4 +210,15 @@ fn no_line_feed_within_the_limit() {
 fn empty_lines_up_to_the_limit() {
     assert_eq!(run(&("\n".repeat(65_535) + "x")), ["unknown 65536"]);
     assert_eq!(run(&("\n".repeat(65_536) + "x")), NOTHING);
+}
+
+/// The whole line is judged first.
+#[test]
+fn a_bad_word_past_the_longest_span() {
+    let line = |head: &str, words: usize, last: &str| format!("{head}{} {last}\n", " 1".repeat(words));
+    for (head, words) in [("weights", 1_096), ("weights", 1_200), ("days 0 0", 1_099), ("days 0 0", 1_200)] {
+        assert_eq!(console(line(head, words, "1").as_bytes()), "refused 3 0\n");
+        assert_eq!(console(line(head, words, "x").as_bytes()), "unknown 1\n");
+        assert_eq!(console(line(head, words, "1 x").as_bytes()), "unknown 1\n");
+    }
 }

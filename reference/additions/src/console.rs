@@ -1,7 +1,7 @@
 //! The console, no part of the paper, over section "Account and its calls": a script of calls in, their answers out.
 
-use crate::statement::{refusal_text, text};
-use crate::{account, statement, value, Answer, Boundary, Mean, ProfileNumber, Weekday, DONE, LARGEST_BOUNDARY};
+use model::statement::{refusal_text, text};
+use model::{account, statement, value, Answer, Boundary, Mean, ProfileNumber, Weekday, DONE, LARGEST_BOUNDARY};
 
 pub const MOST_BYTES: usize = 65_536;
 
