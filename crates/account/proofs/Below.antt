@@ -176,7 +176,7 @@ module _ (p : ℕ → Bool) where
   last-below e h = rw (e, h)
 
   -- no p below k where there is none below a later boundary
-  pub some-less : (m k : ℕ) → k ≤ m → somewhere p m ≡ false → somewhere p k ≡ false
+  some-less : (m k : ℕ) → k ≤ m → somewhere p m ≡ false → somewhere p k ≡ false
   unfolding somewhere
   some-less zero k l e =
       let none : k ≡ 0 = omega arith in

@@ -1,4 +1,4 @@
--- What an account shows after an accepted call is what stood before it, changed as the call says (Account and its calls).
+-- What an account shows after an accepted call is what stood before it, changed as the call says (Account and its calls). Assumes nothing.
 use Prim.Native.Nat.{ℕ, zero, suc, _<_}
 use mathlib.Core.Path.{_≡_, refl, _∙_}
 use mathlib.Core.Bool.{Bool, true, false, cond}

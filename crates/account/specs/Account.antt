@@ -8,7 +8,7 @@ use Rattle.profile.specs.Limits.{weightLeast, weightMost, badSpan}
 use Rattle.account.specs.Below.{everywhere}
 use Rattle.account.specs.Stands.{Stands, neverFalling, lastLessFirst}
 
--- weights (n), marks and counts (n+1): a boundary is the start of a gas day, a reading's count the meter's register in Wh, a cut a date at which
+-- weights (n), marks and counts (n+1): a boundary is the start of a gas day, n the end of the last one, a reading's count the meter's register in Wh, a cut a date at which
 -- the energy between two readings is divided
 pub record Account : Type 0 where
   pub weights : List ℕ

@@ -66,5 +66,5 @@ pub record CheckMet (before : Account) (answered : ℕ) (after : Account) : Type
   pub stays : after ≡ before
 
 pub record GoodWeightsMet (w : List ℕ) (good : Bool) (after : List ℕ) : Type 0 where
-  pub says : good ≡ goodWeights w
+  pub gives : good ≡ goodWeights w
   pub stays : after ≡ w

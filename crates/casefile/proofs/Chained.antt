@@ -13,7 +13,7 @@ use Rattle.casefile.specs.Bytes.{number16}
 use Rattle.casefile.specs.Case.{daysOf, readingsOffset, readingsLength, readingOffset, cutsOffset, cutsLength, endOf}
 use Rattle.casefile.specs.Faults.{Fault, noFault, _before_, fault, firstFault, readingFault, cutFault, faultOf, headFault, meansFault, readingsFault, cutsFault}
 use Rattle.profile.specs.Rows.{filled}
-use Rattle.casefile.specs.Sections.{spanFault, filedFault, Reached, Clear, ReadingsAsked, ReadingsFrom, ReadingsMet, CutsAsked, CutsFrom, CutsMet, told, SpanMet, FillMet}
+use Rattle.casefile.specs.Sections.{spanFault, beforeCutsFault, Reached, Clear, ReadingsAsked, ReadingsFrom, ReadingsMet, CutsAsked, CutsFrom, CutsMet, told, SpanMet, FillMet}
 use Rattle.casefile.proofs.Faults.{before-assoc, met, stops, passes, none-both, none-before, clean, stays, joins}
 use Rattle.casefile.proofs.Kept.{cuts-kept, cuts-counts}
 use Rattle.casefile.proofs.Items.{sane}
@@ -29,11 +29,11 @@ clear-filled {m} {lent} n c l =
     c .zeros ∙ ap (λ (k : ℕ). replicate k 0) e ∙ sym (replicate-append-replicate n (m - n) 0) ∙ ap (λ (k : ℕ). replicate n 0 ++ replicate (m - k) 0) (sym (length-replicate n 0))
 
 module _ {s : List ℕ} {at : ℕ} {so-far : SectionEnd} {marks counts : List ℕ} (a : ReadingsFrom s at so-far marks counts) where
-  pub readings-unread : (so-far .number ≡ 0 → ⊥) → ReadingsMet s (filedFault s) so-far marks counts
+  pub readings-unread : (so-far .number ≡ 0 → ⊥) → ReadingsMet s (beforeCutsFault s) so-far marks counts
   readings-unread h = record { reached = stays (readingsFault s) (a .reached) h; marks-are = λ z. absurd (h z); counts-are = λ z. absurd (h z) }
 
   module _ (z : so-far .number ≡ 0) where
-    pub readings-offset : at ≡ readingsOffset s
+    readings-offset : at ≡ readingsOffset s
     readings-offset = a .follows ∙ a .reached .next-is z
 
     span : GoodSpan (daysOf s)
@@ -42,7 +42,7 @@ module _ {s : List ℕ} {at : ℕ} {so-far : SectionEnd} {marks counts : List �
     pub readings-near : at ≤ 2202
     readings-near = omega (arith, readings-offset, span .least, span .most)
 
-    pub readings-early : {p : SectionEnd} {m c : List ℕ} → p ≡ record { number = 13; place = length s; days = 0; next = 0 } → length s < at + 2 → ReadingsMet s (filedFault s) p m c
+    pub readings-early : {p : SectionEnd} {m c : List ℕ} → p ≡ record { number = 13; place = length s; days = 0; next = 0 } → length s < at + 2 → ReadingsMet s (beforeCutsFault s) p m c
     readings-early e l =
         record {
           reached = joins (a .reached) z (stops (lit< tt) e (simp (lt-ltb (length s) (readingsOffset s + 2) (rw readings-offset at l))));
@@ -68,7 +68,7 @@ module _ {s : List ℕ} {at : ℕ} {so-far : SectionEnd} {marks counts : List �
             counts-long = a .counts-clear .long;
           }
 
-      pub readings-read : {p : SectionEnd} {m c : List ℕ} → ReadingsMet s (firstFault (readingFault s) (readingsLength s)) p m c → ReadingsMet s (filedFault s) p m c
+      pub readings-read : {p : SectionEnd} {m c : List ℕ} → ReadingsMet s (firstFault (readingFault s) (readingsLength s)) p m c → ReadingsMet s (beforeCutsFault s) p m c
       readings-read r =
           record {
             reached = joins (a .reached) z (rw (le-ltb (length s) (readingsOffset s + 2) (rw readings-offset at l)) (r .reached));
@@ -77,7 +77,7 @@ module _ {s : List ℕ} {at : ℕ} {so-far : SectionEnd} {marks counts : List �
           }
 
 -- the faults of the sections, one after the other, are the file's
-pub in-order : (s : List ℕ) → (filedFault s before cutsFault s) ≡ faultOf s
+pub in-order : (s : List ℕ) → (beforeCutsFault s before cutsFault s) ≡ faultOf s
 in-order s =
     before-assoc (spanFault s) (readingsFault s) (cutsFault s) ∙ before-assoc (headFault s) (meansFault s) (readingsFault s before cutsFault s)
 
@@ -86,7 +86,7 @@ readings-end : (s : List ℕ) (i : ℕ) → readingOffset s 0 ≤ length s → f
 readings-end s zero l e = l
 readings-end s (suc i) l e = omega (arith, sane s i (none-before (readingFault s) (suc i) i (omega arith) e) .long)
 
-pub cuts-start : (s : List ℕ) → filedFault s ≡ noFault → cutsOffset s ≤ length s
+cuts-start : (s : List ℕ) → beforeCutsFault s ≡ noFault → cutsOffset s ≤ length s
 cuts-start s e =
     let r = passes (ltb (length s) (readingsOffset s + 2)) 13 (length s) _ (none-both (spanFault s) (readingsFault s) e .1) in
     let l = ltb-false (length s) (readingsOffset s + 2) (r .0) in
@@ -94,7 +94,7 @@ cuts-start s e =
 
 module _ {s : List ℕ} {at : ℕ} {so-far : SectionEnd} {marks : List ℕ} (a : CutsFrom s at so-far marks) where
   -- what the cuts' section has, the file has
-  whole : {p : SectionEnd} → Reached (filedFault s before cutsFault s) (daysOf s) (endOf s) p → Reached (faultOf s) (daysOf s) (endOf s) p
+  whole : {p : SectionEnd} → Reached (beforeCutsFault s before cutsFault s) (daysOf s) (endOf s) p → Reached (faultOf s) (daysOf s) (endOf s) p
   whole r = rw (← in-order s) r
 
   pub cuts-unread : (so-far .number ≡ 0 → ⊥) → CutsMet s (faultOf s) so-far marks
@@ -163,13 +163,13 @@ unfaulted : {f : Fault} {n next : ℕ} {p : SectionEnd} → Reached f n next p �
 unfaulted {p = p} r e = told-none (p .number) (p .place) (r .tells ∙ e)
 
 -- the three sections fill the slices with the account that the file names
-pub filled-case : {s weights marks counts cut : List ℕ} {span filed p : SectionEnd} → SpanMet s span weights → ReadingsMet s (filedFault s) filed marks counts → CutsMet s (faultOf s) p cut
+pub filled-case : {s weights marks counts cut : List ℕ} {span filed p : SectionEnd} → SpanMet s span weights → ReadingsMet s (beforeCutsFault s) filed marks counts → CutsMet s (faultOf s) p cut
     → FillMet s p (account weights cut counts)
 filled-case {s} a b c =
     record {
       reached = c .reached;
       fills = λ z.
-          let e = none-both (filedFault s) (cutsFault s) (in-order s ∙ clean (c .reached) z) .0 in
+          let e = none-both (beforeCutsFault s) (cutsFault s) (in-order s ∙ clean (c .reached) z) .0 in
           let filed = unfaulted (b .reached) e in
           let span = unfaulted (a .reached) (none-both (spanFault s) (readingsFault s) e .0) in
           let k = cuts-kept s (cutsLength s) in

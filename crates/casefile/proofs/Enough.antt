@@ -14,8 +14,8 @@ use Rattle.account.specs.Below.{somewhere}
 use Rattle.account.specs.Account.{energyMost}
 use Rattle.casefile.specs.Bytes.{little, number16, number64, signed}
 use Rattle.casefile.specs.Case.{meansLength, meanOffset, daysOf, readingsOffset, readingsLength, readingOffset, readingBoundary, readingCount, cutsOffset, cutsLength, cutOffset, cutBoundary, endOf}
-use Rattle.casefile.specs.Faults.{Fault, noFault, refused, _before_, fault, firstFault, early, falls, meanFault, readingFault, cutFault, faultOf, headFault, meansFault, readingsFault, cutsFault}
-use Rattle.casefile.specs.Sections.{spanFault, filedFault}
+use Rattle.casefile.specs.Faults.{Fault, noFault, refused, _before_, fault, firstFault, early, failsToRise, meanFault, readingFault, cutFault, faultOf, headFault, meansFault, readingsFault, cutsFault}
+use Rattle.casefile.specs.Sections.{spanFault, beforeCutsFault}
 use Rattle.casefile.specs.Length.{fileMost, bytesRead, EnoughBytes}
 use Rattle.casefile.proofs.Faults.{none-both, passes}
 use Rattle.casefile.proofs.Chained.{in-order}
@@ -38,7 +38,7 @@ unfolding somewhere
 some-same p q zero same = refl
 some-same p q (suc m) same = λ k. some-same p q m (λ i l. same i (omega arith)) k || same m (omega arith) k
 
-falls-same : (b c : ℕ → ℕ) (i : ℕ) → ((j : ℕ) → j ≤ i → b j ≡ c j) → falls b i ≡ falls c i
+falls-same : (b c : ℕ → ℕ) (i : ℕ) → ((j : ℕ) → j ≤ i → b j ≡ c j) → failsToRise b i ≡ failsToRise c i
 falls-same b c zero same = refl
 falls-same b c (suc i) same = λ k. leb (same (suc i) (omega arith) k) (same i (omega arith) k)
 
@@ -192,7 +192,7 @@ module _ {s t : List ℕ} (a : Alike s t) where
       let span-same = both-same (headFault s) (meansFault s) head-same means-same in
       let filed-same = both-same (spanFault s) (readingsFault s) span-same (λ e. readings-same (none-both (headFault s) (meansFault s) e .0)) in
       sym (in-order s) ∙
-      both-same (filedFault s) (cutsFault s) filed-same
+      both-same (beforeCutsFault s) (cutsFault s) filed-same
       (λ e.
       let f = none-both (spanFault s) (readingsFault s) e in
       cuts-same (none-both (headFault s) (meansFault s) (f .0) .0) (f .1)) ∙

@@ -1,4 +1,4 @@
--- Laws of faults in order (If a call declines): the first of several, and the reader's progress up to one. Assumes nothing.
+-- Laws of faults in order (If a call declines): the first of several, and how far the reader comes. Assumes nothing.
 use Prim.Native.Nat.{ℕ, zero, suc, _+_, _<_}
 use mathlib.Core.Path.{_≡_, refl, sym, _∙_, ap}
 use mathlib.Core.Bool.{Bool, true, false}
@@ -99,7 +99,7 @@ first-few f (suc m) i l e = go (first-few f m i) (none-both (firstFault f m) (f 
         let same : i ≡ m = omega arith in
         rw same n
 
--- the reader's progress over two sections: the first has no fault, or has one and the second is not read
+-- how far the reader comes over two sections: the first has no fault, or has one and the second is not read
 pub clean : {f : Fault} {n next : ℕ} {p : SectionEnd} → Reached f n next p → p .number ≡ 0 → f ≡ noFault
 clean {p = p} r z = sym (r .tells) ∙ ap (λ (n : ℕ). told n (p .place)) z
 

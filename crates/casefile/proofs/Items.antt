@@ -13,7 +13,7 @@ use native.Mathlib.Numerals.{add-one}
 use native.Mathlib.Nat.{le-refl}
 use Rattle.account.specs.Below.{somewhere}
 use Rattle.casefile.specs.Case.{daysOf, readingOffset, readingBoundary, readingCount, emptyCase, withReadings}
-use Rattle.casefile.specs.Faults.{noFault, firstFault, falls, readingFault}
+use Rattle.casefile.specs.Faults.{noFault, firstFault, failsToRise, readingFault}
 use Rattle.casefile.specs.Reader.{full}
 use Rattle.casefile.specs.declared.readings.Reading.{Reading}
 use Rattle.casefile.specs.Sections.{told, countFault, itemFault, CountedMet, ItemMet}
@@ -40,8 +40,8 @@ abbrev pub before : (ℕ → ℕ) → ℕ → ℕ
 before count zero = count 0
 before count (suc i) = count i
 
--- a boundary below that one falls
-pub rises : (boundary : ℕ → ℕ) (i : ℕ) → ltb (boundary i) (above boundary i) ≡ falls boundary i
+-- a boundary below that one fails to rise
+pub rises : (boundary : ℕ → ℕ) (i : ℕ) → ltb (boundary i) (above boundary i) ≡ failsToRise boundary i
 rises boundary zero = le-ltb (boundary 0) 0 (omega arith)
 rises boundary (suc i) = go (decLt (boundary i) (boundary (suc i)))
   where
@@ -77,14 +77,14 @@ pub record ReadingsRead (s marks counts : List ℕ) (low last i : ℕ) : Type 0 
 -- the facts of a reading without a fault
 pub record Sane (s : List ℕ) (i : ℕ) : Type 0 where
   pub long : readingOffset s i + 10 ≤ length s
-  pub rising : falls (readingBoundary s) i ≡ false
+  pub rising : failsToRise (readingBoundary s) i ≡ false
   pub inside : readingBoundary s i ≤ daysOf s
   pub ordered : somewhere (λ j. ltb (readingCount s i) (readingCount s j)) i ≡ false
 
 pub sane : (s : List ℕ) (i : ℕ) → readingFault s i ≡ noFault → Sane s i
 sane s i e =
     let f1 = passes (ltb (length s) (readingOffset s i + 10)) 13 (length s) _ e in
-    let f2 = passes (falls (readingBoundary s) i) 13 (readingOffset s i) _ (f1 .1) in
+    let f2 = passes (failsToRise (readingBoundary s) i) 13 (readingOffset s i) _ (f1 .1) in
     let f3 = passes (ltb (daysOf s) (readingBoundary s i)) 6 (readingOffset s i) _ (f2 .1) in
     let f4 = passes (somewhere (λ j. ltb (readingCount s i) (readingCount s j)) i) 8 (readingOffset s i + 2) _ (f3 .1) in
     record {

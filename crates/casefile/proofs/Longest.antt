@@ -8,7 +8,7 @@ use borrow.Author.Tests.{ltb-false}
 use lib.Dec.{ltb}
 use lib.ListN.{length}
 use Rattle.casefile.specs.Case.{daysOf, readingsLength, readingBoundary, cutsLength, cutBoundary, endOf}
-use Rattle.casefile.specs.Faults.{noFault, firstFault, falls, readingFault, cutFault, faultOf}
+use Rattle.casefile.specs.Faults.{noFault, firstFault, failsToRise, readingFault, cutFault, faultOf}
 use Rattle.casefile.specs.Length.{fileMost, LongestFile}
 use Rattle.casefile.proofs.Faults.{none-before, no-fault}
 use Rattle.casefile.proofs.Items.{Sane, sane}
@@ -18,7 +18,7 @@ use Rattle.casefile.proofs.Chained.{span-none}
 use Rattle.casefile.proofs.LongestTaken.{taken}
 
 -- boundaries that rise are at least their numbers
-pub at-least : (boundary : ℕ → ℕ) (i : ℕ) → ((j : ℕ) → j < suc i → falls boundary j ≡ false) → i ≤ boundary i
+at-least : (boundary : ℕ → ℕ) (i : ℕ) → ((j : ℕ) → j < suc i → failsToRise boundary j ≡ false) → i ≤ boundary i
 at-least boundary zero up = omega arith
 at-least boundary (suc i) up = omega (arith, at-least boundary i (λ j l. up j (omega arith)), climbs boundary (suc i) (up (suc i) (omega arith)))
 

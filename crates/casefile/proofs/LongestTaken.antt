@@ -13,7 +13,7 @@ use Rattle.weights.specs.Weights.{listOf}
 use Rattle.weights.proofs.Span.{listOf-length, listOf-at}
 use Rattle.casefile.specs.Bytes.{little, number16, signed}
 use Rattle.casefile.specs.Case.{meansLength, meanOffset, daysOf, readingsOffset, readingsLength, readingOffset, readingBoundary, readingCount, cutsOffset, cutsLength, cutOffset, cutBoundary, endOf}
-use Rattle.casefile.specs.Faults.{noFault, falls, meanFault, readingFault, cutFault, headFault, meansFault, readingsFault, cutsFault}
+use Rattle.casefile.specs.Faults.{noFault, failsToRise, meanFault, readingFault, cutFault, headFault, meansFault, readingsFault, cutsFault}
 use Rattle.casefile.specs.Length.{fileMost, Taken}
 use Rattle.casefile.proofs.Faults.{none-of}
 use Rattle.casefile.proofs.Items.{some-above}
@@ -167,7 +167,7 @@ cut-is k l =
 reaches : (to : ℕ) → to ≤ 15370 → ltb (length file) to ≡ false
 reaches to l = le-ltb (length file) to (omega (arith, long))
 
-rising : (boundary : ℕ → ℕ) (k : ℕ) → ((j : ℕ) → j ≤ k → boundary j ≡ j) → falls boundary k ≡ false
+rising : (boundary : ℕ → ℕ) (k : ℕ) → ((j : ℕ) → j ≤ k → boundary j ≡ j) → failsToRise boundary k ≡ false
 rising boundary zero is = refl
 rising boundary (suc k) is = lt-leb (boundary (suc k)) (boundary k) (omega (arith, is k (omega arith), is (suc k) (omega arith)))
 

@@ -12,7 +12,7 @@ use lib.ListN.{length, getD, set}
 use Rattle.account.specs.Account.{marksReading, markOf}
 use Rattle.casefile.specs.declared.sections.SectionEnd.{SectionEnd}
 use Rattle.casefile.specs.Case.{daysOf, readingsLength, cutsLength, cutOffset, cutBoundary, withReadings, withCuts}
-use Rattle.casefile.specs.Faults.{noFault, firstFault, falls, cutFault}
+use Rattle.casefile.specs.Faults.{noFault, firstFault, failsToRise, cutFault}
 use Rattle.casefile.specs.Reader.{full}
 use Rattle.casefile.specs.Sections.{told, CutsMet}
 use Rattle.casefile.proofs.Faults.{met, stops, first-more, first-told}
@@ -33,7 +33,7 @@ pub cut-early : (s : List ℕ) (i : ℕ) → length s < cutOffset s i + 2 → to
 cut-early s i l = simp (lt-ltb (length s) (cutOffset s i + 2) l)
 
 module _ {s marks : List ℕ} {low i : ℕ} (r : CutsRead s marks low i) (l : cutOffset s i + 2 ≤ length s) where
-  tested : falls (cutBoundary s) i ≡ ltb (cutBoundary s i) low
+  tested : failsToRise (cutBoundary s) i ≡ ltb (cutBoundary s i) low
   tested = rw (r .low-is) (sym (rises (cutBoundary s) i))
 
   pub cut-falls : cutBoundary s i < low → told 13 (cutOffset s i) ≡ cutFault s i

@@ -16,11 +16,11 @@ use Rattle.account.specs.Account.{energyMost}
 use Rattle.account.specs.Refusals.{outOfOrder, tooMuch, readingRows}
 use Rattle.account.proofs.Below.{clash, refuted, both, none-is, some-at, first-is, last-is}
 use Rattle.casefile.specs.Case.{daysOf, readingBoundary, readingCount}
-use Rattle.casefile.specs.Faults.{falls}
+use Rattle.casefile.specs.Faults.{failsToRise}
 use Rattle.casefile.proofs.Items.{above, before, rises, falling}
 
 -- boundaries rise
-pub climbs : (boundary : ℕ → ℕ) (i : ℕ) → falls boundary i ≡ false → above boundary i ≤ boundary i
+pub climbs : (boundary : ℕ → ℕ) (i : ℕ) → failsToRise boundary i ≡ false → above boundary i ≤ boundary i
 climbs boundary i e = ltb-false (boundary i) (above boundary i) (rises boundary i ∙ e)
 
 -- the first i readings of a file, as they stand
@@ -43,7 +43,7 @@ highest s (suc i) r o l =
     (readingBoundary s i, e .0, omega (arith, e .1))
 
 -- one more reading that rises
-module _ {s : List ℕ} {i : ℕ} (st : Stands) (o : Orderly s i (st .readings)) (rising : falls (readingBoundary s) i ≡ false) where
+module _ {s : List ℕ} {i : ℕ} (st : Stands) (o : Orderly s i (st .readings)) (rising : failsToRise (readingBoundary s) i ≡ false) where
   up : above (readingBoundary s) i ≤ readingBoundary s i
   up = climbs (readingBoundary s) i rising
 

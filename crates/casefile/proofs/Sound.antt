@@ -25,10 +25,10 @@ use Rattle.account.proofs.Sound.{sound-parts}
 use Rattle.account.proofs.Rows.{Checked, rows-through}
 use Rattle.account.proofs.Keeps.{Holds, open-keeps, reading-keeps, cut-keeps}
 use Rattle.casefile.specs.Case.{profileByte, weekdayByte, meansLength, meansOf, daysOf, readingsOffset, readingsLength, readingOffset, readingBoundary, readingCount, cutsOffset, cutsLength, cutOffset, cutBoundary, endOf, emptyCase, withReadings, withCuts, accountOf}
-use Rattle.casefile.specs.Faults.{noFault, fault, firstFault, falls, readingFault, cutFault, faultOf, headFault, meansFault, readingsFault, cutsFault}
+use Rattle.casefile.specs.Faults.{noFault, fault, firstFault, failsToRise, readingFault, cutFault, faultOf, headFault, meansFault, readingsFault, cutsFault}
 use Rattle.casefile.proofs.Items.{above, before, Sane, sane}
 use Rattle.casefile.proofs.Ordered.{climbs, Orderly, more, reading-rows}
-use Rattle.casefile.specs.Sections.{spanFault, filedFault}
+use Rattle.casefile.specs.Sections.{spanFault, beforeCutsFault}
 use Rattle.casefile.specs.Reader.{faultNumber, CaseSound, CaseTaken}
 use Rattle.casefile.proofs.Faults.{number-of, number-before, none-both, no-fault, passes, none-before, first-few}
 use Rattle.casefile.proofs.Kept.{Kept, readings-kept, cuts-kept, uncut}
@@ -80,7 +80,7 @@ pub record Read (s : List ℕ) (i : ℕ) : Type 0 where
   orderly : Orderly s i (shown (withReadings s i) .readings)
 
 -- .. the number of reading i, where it is all there and rises, is that of the rows that the table asks
-reading-number : (s : List ℕ) (i : ℕ) → Read s i → readingOffset s i + 10 ≤ length s → falls (readingBoundary s) i ≡ false
+reading-number : (s : List ℕ) (i : ℕ) → Read s i → readingOffset s i + 10 ≤ length s → failsToRise (readingBoundary s) i ≡ false
     → faultNumber (readingFault s i) ≡ readingRows (days (withReadings s i)) (shown (withReadings s i)) (readingBoundary s i) (readingCount s i)
 reading-number s i r long rising =
     let a = withReadings s i in
@@ -115,7 +115,7 @@ readings-sound s e (suc i) f =
     record { checked = h .checked; orderly = subst⁻¹ (λ (st : Stands). Orderly s (suc i) (st .readings)) (h .shows) (more (shown a) (r .orderly) (g .rising) (holds-up s i g)) }
 
 -- .. and that of the call
-pub reading-agrees : (s : List ℕ) (i : ℕ) → Read s i → readingOffset s i + 10 ≤ length s → falls (readingBoundary s) i ≡ false
+pub reading-agrees : (s : List ℕ) (i : ℕ) → Read s i → readingOffset s i + 10 ≤ length s → failsToRise (readingBoundary s) i ≡ false
     → faultNumber (readingFault s i) ≡ readingNumber (withReadings s i) (readingBoundary s i) (readingCount s i)
 reading-agrees s i r long rising = reading-number s i r long rising ∙ sym (rows-through (withReadings s i) _ (r .checked))
 
@@ -127,17 +127,17 @@ pub record Cut (s : List ℕ) (i : ℕ) : Type 0 where
 -- a cut without a fault is all there, rises and lies in the span
 pub record SaneCut (s : List ℕ) (i : ℕ) : Type 0 where
   pub long : cutOffset s i + 2 ≤ length s
-  pub rising : falls (cutBoundary s) i ≡ false
+  pub rising : failsToRise (cutBoundary s) i ≡ false
   pub inside : cutBoundary s i ≤ daysOf s
 
 pub sane-cut : (s : List ℕ) (i : ℕ) → cutFault s i ≡ noFault → SaneCut s i
 sane-cut s i e =
     let f1 = passes (ltb (length s) (cutOffset s i + 2)) 13 (length s) _ e in
-    let f2 = passes (falls (cutBoundary s) i) 13 (cutOffset s i) _ (f1 .1) in
+    let f2 = passes (failsToRise (cutBoundary s) i) 13 (cutOffset s i) _ (f1 .1) in
     record { long = ltb-false _ _ (f1 .0); rising = f2 .0; inside = ltb-false _ _ (no-fault (ltb (daysOf s) (cutBoundary s i)) 6 (cutOffset s i) (f2 .1)) }
 
 -- .. the number of cut i, likewise
-cut-number : (s : List ℕ) (i : ℕ) → Cut s i → cutOffset s i + 2 ≤ length s → falls (cutBoundary s) i ≡ false
+cut-number : (s : List ℕ) (i : ℕ) → Cut s i → cutOffset s i + 2 ≤ length s → failsToRise (cutBoundary s) i ≡ false
     → faultNumber (cutFault s i) ≡ cutRows (days (withCuts s i)) (shown (withCuts s i)) (cutBoundary s i)
 cut-number s i p long rising =
     let a = withCuts s i in
@@ -160,7 +160,7 @@ cuts-sound s r (suc i) f =
     next j up old true e h = omega (arith, eqb-true j (cutBoundary s i) e)
     next j up old false e h = omega (arith, old h)
 
-pub cut-agrees : (s : List ℕ) (i : ℕ) → Cut s i → cutOffset s i + 2 ≤ length s → falls (cutBoundary s) i ≡ false
+pub cut-agrees : (s : List ℕ) (i : ℕ) → Cut s i → cutOffset s i + 2 ≤ length s → failsToRise (cutBoundary s) i ≡ false
     → faultNumber (cutFault s i) ≡ cutNumber (withCuts s i) (cutBoundary s i)
 cut-agrees s i p long rising = cut-number s i p long rising ∙ sym (rows-through (withCuts s i) _ (p .checked))
 
@@ -173,7 +173,7 @@ pub record Clean (s : List ℕ) : Type 0 where
 
 pub clean-of : (s : List ℕ) → faultOf s ≡ noFault → Clean s
 clean-of s e =
-    let f = none-both (filedFault s) (cutsFault s) (in-order s ∙ e) in
+    let f = none-both (beforeCutsFault s) (cutsFault s) (in-order s ∙ e) in
     let g = none-both (spanFault s) (readingsFault s) (f .0) in
     let r = passes (ltb (length s) (readingsOffset s + 2)) 13 (length s) _ (g .1) in
     let c = passes (ltb (length s) (cutsOffset s + 2)) 13 (length s) _ (f .1) in

@@ -28,7 +28,7 @@ pub record GoodSpan (n : ℕ) : Type 0 where
   pub least : 1 ≤ n
   pub most : n ≤ spanMost
 
-pub good-span : (n : ℕ) → badSpan n ≡ false → GoodSpan n
+good-span : (n : ℕ) → badSpan n ≡ false → GoodSpan n
 good-span n e =
     let b = both (leb 1 n) (leb n spanMost) (not-false (leb 1 n && leb n spanMost) e) in
     record { least = leb-true 1 n (b .0); most = leb-true n spanMost (b .1) }

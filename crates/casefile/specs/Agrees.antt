@@ -14,9 +14,9 @@ use Rattle.weights.specs.Means.{firstOut, someOut}
 use Rattle.weights.specs.Weights.{Ruling, ruling}
 use Rattle.account.specs.Refusals.{readingNumber, cutNumber}
 use Rattle.casefile.specs.Case.{profileByte, weekdayByte, meanOffset, firstMeans, meansOf, daysOf, readingsOffset, readingOffset, readingBoundary, readingCount, cutOffset, cutBoundary, withReadings, withCuts}
-use Rattle.casefile.specs.Faults.{noFault, fault, firstFault, falls, headFault, meanFault, readingFault, cutFault}
+use Rattle.casefile.specs.Faults.{noFault, fault, firstFault, failsToRise, headFault, meanFault, readingFault, cutFault}
 use Rattle.casefile.specs.Reader.{faultNumber}
-use Rattle.casefile.specs.Sections.{spanFault, filedFault}
+use Rattle.casefile.specs.Sections.{spanFault, beforeCutsFault}
 
 -- the weights call over profile, weekday and means
 abbrev pub weighing : List ℕ → Ruling
@@ -41,9 +41,9 @@ pub record FileAgrees : Type 0 where
   pub span : (s : List ℕ) → readingsOffset s ≤ length s → faultNumber (spanFault s) ≡ afterDay s (weighing s .number)
   -- a reading that is all there and rises, nothing before it having a fault: the reading call
   pub reading : (s : List ℕ) (i : ℕ) → spanFault s ≡ noFault → firstFault (readingFault s) i ≡ noFault →
-      readingOffset s i + 10 ≤ length s → falls (readingBoundary s) i ≡ false →
+      readingOffset s i + 10 ≤ length s → failsToRise (readingBoundary s) i ≡ false →
       faultNumber (readingFault s i) ≡ readingNumber (withReadings s i) (readingBoundary s i) (readingCount s i)
   -- a cut, likewise: the cut call
-  pub cut : (s : List ℕ) (i : ℕ) → filedFault s ≡ noFault → firstFault (cutFault s) i ≡ noFault →
-      cutOffset s i + 2 ≤ length s → falls (cutBoundary s) i ≡ false →
+  pub cut : (s : List ℕ) (i : ℕ) → beforeCutsFault s ≡ noFault → firstFault (cutFault s) i ≡ noFault →
+      cutOffset s i + 2 ≤ length s → failsToRise (cutBoundary s) i ≡ false →
       faultNumber (cutFault s i) ≡ cutNumber (withCuts s i) (cutBoundary s i)

@@ -37,9 +37,9 @@ abbrev pub early : List ℕ → ℕ → Fault
 early s to = fault (ltb (length s) to) 13 (length s)
 
 -- 13: "a boundary that fails to rise (place: that boundary)", the item's number being i
-abbrev pub falls : (ℕ → ℕ) → ℕ → Bool
-falls boundary zero = false
-falls boundary (suc i) = leb (boundary (suc i)) (boundary i)
+abbrev pub failsToRise : (ℕ → ℕ) → ℕ → Bool
+failsToRise boundary zero = false
+failsToRise boundary (suc i) = leb (boundary (suc i)) (boundary i)
 
 abbrev pub meanFault : List ℕ → ℕ → Fault
 meanFault s i =
@@ -50,7 +50,7 @@ meanFault s i =
 abbrev pub readingFault : List ℕ → ℕ → Fault
 readingFault s i =
     early s (readingOffset s i + 10) before
-    fault (falls (readingBoundary s) i) 13 (readingOffset s i) before
+    fault (failsToRise (readingBoundary s) i) 13 (readingOffset s i) before
     fault (ltb (daysOf s) (readingBoundary s i)) 6 (readingOffset s i) before
     fault (somewhere (λ j. ltb (readingCount s i) (readingCount s j)) i) 8 (readingOffset s i + 2) before
     fault (ltb energyMost (readingCount s i - readingCount s 0)) 9 (readingOffset s i + 2)
@@ -58,7 +58,7 @@ readingFault s i =
 abbrev pub cutFault : List ℕ → ℕ → Fault
 cutFault s i =
     early s (cutOffset s i + 2) before
-    fault (falls (cutBoundary s) i) 13 (cutOffset s i) before
+    fault (failsToRise (cutBoundary s) i) 13 (cutOffset s i) before
     fault (ltb (daysOf s) (cutBoundary s i)) 6 (cutOffset s i)
 
 -- the first fault of each section: profile, weekday and the count of means ..

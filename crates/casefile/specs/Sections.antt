@@ -26,8 +26,8 @@ told (suc number) place = refused (suc number) place
 abbrev pub spanFault : List ℕ → Fault
 spanFault s = headFault s before meansFault s
 
-abbrev pub filedFault : List ℕ → Fault
-filedFault s = spanFault s before readingsFault s
+abbrev pub beforeCutsFault : List ℕ → Fault
+beforeCutsFault s = spanFault s before readingsFault s
 
 -- the reader met the fault f, or, where that is none, has read n and stands at the offset `next`
 pub record Reached (f : Fault) (n next : ℕ) (p : SectionEnd) : Type 0 where
@@ -99,7 +99,7 @@ pub record ReadingsAsked (s : List ℕ) (at count n : ℕ) (marks counts : List 
   pub marks-long : length marks ≡ spanMost + 1
   pub counts-long : length counts ≡ spanMost + 1
 
--- the slices hold the readings, or the progress tells a fault of the file
+-- the slices hold the readings, or the section's end tells a fault of the file
 pub record ReadingsMet (s : List ℕ) (f : Fault) (p : SectionEnd) (marks counts : List ℕ) : Type 0 where
   pub reached : Reached f (daysOf s) (cutsOffset s) p
   pub marks-are : p .number ≡ 0 → marks ≡ full (withReadings s (readingsLength s)) .marks
@@ -123,14 +123,14 @@ pub record CutsAsked (s : List ℕ) (at count n : ℕ) (marks : List ℕ) : Type
   pub marks-are : marks ≡ full (withReadings s (readingsLength s)) .marks
   pub marks-long : length marks ≡ spanMost + 1
 
--- the marks hold the readings and the cuts, or the progress tells a fault of the file
+-- the marks hold the readings and the cuts, or the section's end tells a fault of the file
 pub record CutsMet (s : List ℕ) (f : Fault) (p : SectionEnd) (marks : List ℕ) : Type 0 where
   pub reached : Reached f (daysOf s) (endOf s) p
   pub marks-are : p .number ≡ 0 → marks ≡ full (accountOf s) .marks
 
 -- the cuts, after readings that are read or have a fault
 pub record CutsFrom (s : List ℕ) (at : ℕ) (so-far : SectionEnd) (marks : List ℕ) : Type 0 where
-  pub reached : Reached (filedFault s) (daysOf s) (cutsOffset s) so-far
+  pub reached : Reached (beforeCutsFault s) (daysOf s) (cutsOffset s) so-far
   pub follows : at ≡ so-far .next
   pub marks-are : so-far .number ≡ 0 → marks ≡ full (withReadings s (readingsLength s)) .marks
   pub marks-long : length marks ≡ spanMost + 1
@@ -141,7 +141,7 @@ pub record AllClear (lent : Account) : Type 0 where
   pub marks : Clear (spanMost + 1) (lent .marks)
   pub counts : Clear (spanMost + 1) (lent .counts)
 
--- the slices hold the account that the file names, or the progress tells the file's fault
+-- the slices hold the account that the file names, or the section's end tells the file's fault
 pub record FillMet (s : List ℕ) (p : SectionEnd) (after : Account) : Type 0 where
   pub reached : Reached (faultOf s) (daysOf s) (endOf s) p
   pub fills : p .number ≡ 0 → after ≡ full (accountOf s)

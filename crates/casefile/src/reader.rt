@@ -3,7 +3,7 @@ ghost use mathlib.Core.Path.{_≡_};
 ghost use Rattle.account.specs.Account.{account};
 ghost use Rattle.profile.specs.Limits.{spanMost};
 ghost use Rattle.casefile.specs.Faults.{faultOf};
-ghost use Rattle.casefile.specs.Sections.{Clear, AllClear, SpanMet, ReadingsFrom, ReadingsMet, CutsFrom, CutsMet, FillMet, filedFault};
+ghost use Rattle.casefile.specs.Sections.{Clear, AllClear, SpanMet, ReadingsFrom, ReadingsMet, CutsFrom, CutsMet, FillMet, beforeCutsFault};
 use crate::cuts::cuts_at;
 use crate::readings::readings_at;
 use crate::sections::SectionEnd;
@@ -43,7 +43,7 @@ fn readings<'a>(
     counts: &mut [u64],
 ) -> SectionEnd
     requires { ⌜ ReadingsFrom (now (r .file)) (r .at) before (now marks) (now counts) ⌝ }
-    ensures { λ p. ⌜ ReadingsMet (now (r .entry .file)) (filedFault (now (r .entry .file))) p (now (marks .exit)) (now (counts .exit)) ⌝ }
+    ensures { λ p. ⌜ ReadingsMet (now (r .entry .file)) (beforeCutsFault (now (r .entry .file))) p (now (marks .exit)) (now (counts .exit)) ⌝ }
 {
     readings_at(r.file, r.at, before, marks, counts)
 }

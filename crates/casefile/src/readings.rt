@@ -5,7 +5,7 @@ ghost use lib.ListN.{length};
 ghost use Rattle.casefile.specs.Bytes.{number64};
 ghost use Rattle.casefile.specs.Case.{readingsLength};
 ghost use Rattle.casefile.specs.Faults.{firstFault, readingFault};
-ghost use Rattle.casefile.specs.Sections.{ItemMet, CountedMet, ReadingsAsked, ReadingsFrom, ReadingsMet, filedFault};
+ghost use Rattle.casefile.specs.Sections.{ItemMet, CountedMet, ReadingsAsked, ReadingsFrom, ReadingsMet, beforeCutsFault};
 use crate::bytes::number16;
 use crate::bytes::number64;
 use crate::sections::SectionEnd;
@@ -122,7 +122,7 @@ pub(crate) fn readings_at(
     counts: &mut [u64],
 ) -> SectionEnd
     requires { ⌜ ReadingsFrom (now file) at before (now marks) (now counts) ⌝ }
-    ensures { λ r. ⌜ ReadingsMet (now (file .entry)) (filedFault (now (file .entry))) r (now (marks .exit)) (now (counts .exit)) ⌝ }
+    ensures { λ r. ⌜ ReadingsMet (now (file .entry)) (beforeCutsFault (now (file .entry))) r (now (marks .exit)) (now (counts .exit)) ⌝ }
 {
     if before.number != 0 {
         return before;

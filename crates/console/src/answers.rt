@@ -8,9 +8,9 @@ ghost use mathlib.Core.Path.{_≡_};
 ghost use mathlib.Core.Bool.{false};
 ghost use lib.ListN.{length, take};
 ghost use Rattle.account.specs.Account.{account};
+ghost use Rattle.layout.specs.Accounts.{textMost};
 ghost use Rattle.script.specs.Input.{scriptMost, scriptOf};
 ghost use Rattle.session.specs.Lines.{session};
-ghost use Rattle.session.specs.Transcript.{longest};
 ghost use Rattle.session.specs.Script.{fresh, scriptText};
 
 // The answers to what was read, which has room for one byte more than a script. No other function calls `answer`.
@@ -21,7 +21,7 @@ pub(crate) fn answer_read(
     counts: &mut [u64],
     out: &mut [u8],
 ) -> Sent
-    requires { ⌜ (length (input .buffer) ≡ scriptMost + 1) × (input .read ≤ scriptMost + 1) × (session 0 (account (now weights) (now marks) (now counts)) ≡ fresh) × (longest ≤ length (now out)) ⌝ }
+    requires { ⌜ (length (input .buffer) ≡ scriptMost + 1) × (input .read ≤ scriptMost + 1) × (session 0 (account (now weights) (now marks) (now counts)) ≡ fresh) × (textMost ≤ length (now out)) ⌝ }
     ensures { λ r. ⌜ (r .failed ≡ false → r .bytes ≡ length (scriptText (scriptOf (take (input .read) (input .buffer))))) ⌝ }
 {
     let buffer = input.buffer();
@@ -37,7 +37,7 @@ fn answer(
     counts: &mut [u64],
     out: &mut [u8],
 ) -> Sent
-    requires { ⌜ (session 0 (account (now weights) (now marks) (now counts)) ≡ fresh) × (longest ≤ length (now out)) ⌝ }
+    requires { ⌜ (session 0 (account (now weights) (now marks) (now counts)) ≡ fresh) × (textMost ≤ length (now out)) ⌝ }
     ensures { λ r. ⌜ (r .failed ≡ false → r .bytes ≡ length (scriptText (scriptOf (now (input .entry))))) ⌝ }
 {
     let end = script::whole_lines(input);

@@ -1,5 +1,5 @@
-// The console: runs a script of calls from standard input on an account, and prints each answer. Of an input of more than 65,536 bytes only
-// the lines that end within those are run, so that none is cut.
+// The console (docs/GUIDE.md, The console): runs a script of calls from standard input on an account, and prints each answer. Of an input of
+// more than 65,536 bytes only the lines that end within those are run, so that none is cut.
 mod answers;
 mod input;
 mod printer;
@@ -12,6 +12,7 @@ fn main() {
     let mut weights = [0u32; Profile::SPAN];
     let mut marks = [0u8; Profile::SPAN + 1];
     let mut counts = [0u64; Profile::SPAN + 1];
+    // The longest answer, 72,390 bytes, and 1,024 more.
     let mut out = [0u8; 73_414];
     answers::answer_read(input, &mut weights, &mut marks, &mut counts, &mut out);
 }

@@ -1,4 +1,4 @@
-// Standard output, to which what an input's script prints goes in pieces.
+// Standard output (docs/GUIDE.md, The console), to which what a script prints goes in pieces.
 use libc::STDOUT_FILENO;
 ghost use Prim.Native.Nat.{_+_};
 ghost use mathlib.Core.Path.{_≡_};

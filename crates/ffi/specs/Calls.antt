@@ -1,4 +1,4 @@
--- The calls for C and Rust, in the paper's order: for each, what it returns and what every slice it was lent holds after it. Each record
+-- The calls for C and Rust, in the paper's order (If a call declines): for each, what it returns and what every slice it was lent holds after it. Each record
 -- is that of the call below, with the number, the place and the values of its answer, and the rules are those of the crates below.
 use Prim.Native.Nat.{ℕ, _+_, _≤_}
 use mathlib.Core.Path.{_≡_}
@@ -15,6 +15,8 @@ use Rattle.weights.specs.Temperature.{temperatureNumber, temperaturePlace, temp
 use Rattle.weights.specs.Choose.{Series, Measured, Forecast, Neither, choice}
 use Rattle.weights.specs.Weights.{ruling, Bounded}
 use Rattle.account.specs.Account.{Account, shown}
+use Rattle.account.specs.Calls.{cleared, readingPut, readingTaken, cutPut, cutTaken}
+use Rattle.account.specs.Refusals.{openNumber, readingNumber, withdrawNumber, cutNumber, uncutNumber}
 use Rattle.statement.specs.Parts.{Outputs, parts, statementOf}
 use Rattle.statement.specs.Call.{statementNumber, outputsAfter}
 use Rattle.customer.specs.Customer.{customerNumber, customerValue, amountNumber, dailyAmount}
@@ -80,6 +82,21 @@ pub record WeightsReturned (profile weekday : ℕ) (means : List ℤ) (before : 
 pub record AccountReturned (table : Account → ℕ) (done : Account → Account) (before : Account) (r : ℕ) (after : Account) : Type 0 where
   pub answers : r ≡ table before
   pub leaves : after ≡ ifDone (table before) (done before) before
+
+abbrev pub OpenReturned : Account → ℕ → Account → Type 0
+OpenReturned = AccountReturned openNumber cleared
+
+abbrev pub ReadingReturned : (k count : ℕ) → Account → ℕ → Account → Type 0
+ReadingReturned k count = AccountReturned (λ a. readingNumber a k count) (λ a. readingPut a k count)
+
+abbrev pub WithdrawReturned : (k : ℕ) → Account → ℕ → Account → Type 0
+WithdrawReturned k = AccountReturned (λ a. withdrawNumber a k) (λ a. readingTaken a k)
+
+abbrev pub CutReturned : (k : ℕ) → Account → ℕ → Account → Type 0
+CutReturned k = AccountReturned (λ a. cutNumber a k) (λ a. cutPut a k)
+
+abbrev pub UncutReturned : (k : ℕ) → Account → ℕ → Account → Type 0
+UncutReturned k = AccountReturned (λ a. uncutNumber a k) (λ a. cutTaken a k)
 
 pub record StatementReturned (before : Account) (lent : Outputs) (r : Outcome) (after : Account) (out : Outputs) : Type 0 where
   pub answers : r .number ≡ statementNumber before lent

@@ -9,11 +9,9 @@ use returned::value_high;
 use returned::value_low;
 use returned::value_number;
 ghost use Rattle.account.specs.Account.{account};
-ghost use Rattle.account.specs.Calls.{cleared, readingPut, readingTaken, cutPut, cutTaken};
-ghost use Rattle.account.specs.Refusals.{openNumber, readingNumber, withdrawNumber, cutNumber, uncutNumber};
 ghost use Rattle.statement.specs.Parts.{outputs};
 ghost use Rattle.layout.specs.Text.{LaidOut, TextMet, statementText, refusalText};
-ghost use Rattle.ffi.specs.Calls.{TemperatureReturned, ChooseReturned, ValueReturned, WeightReturned, WeightsReturned, AccountReturned, StatementReturned, CustomerReturned, AmountReturned, ReadReturned};
+ghost use Rattle.ffi.specs.Calls.{TemperatureReturned, ChooseReturned, ValueReturned, WeightReturned, WeightsReturned, OpenReturned, ReadingReturned, WithdrawReturned, CutReturned, UncutReturned, StatementReturned, CustomerReturned, AmountReturned, ReadReturned};
 
 // The table's number (0 is done), the place or index that goes with it, and the value; 0 where there is none.
 #[repr(C)]
@@ -123,7 +121,7 @@ pub extern "C" fn arvadush_weights(
 // Clears marks and counts, whatever they held.
 #[no_mangle]
 pub extern "C" fn arvadush_open(weights: &[u32], marks: &mut [u8], counts: &mut [u64]) -> u8
-    ensures { λ r. ⌜ AccountReturned openNumber cleared (account (now (weights .entry)) (now (marks .entry)) (now (counts .entry))) r (account (now (weights .exit)) (now (marks .exit)) (now (counts .exit))) ⌝ }
+    ensures { λ r. ⌜ OpenReturned (account (now (weights .entry)) (now (marks .entry)) (now (counts .entry))) r (account (now (weights .exit)) (now (marks .exit)) (now (counts .exit))) ⌝ }
 {
     account::number_of(account::open(weights, marks, counts))
 }
@@ -137,7 +135,7 @@ pub extern "C" fn arvadush_reading(
     k: usize,
     count: u64,
 ) -> u8
-    ensures { λ r. ⌜ AccountReturned (λ a. readingNumber a k count) (λ a. readingPut a k count) (account (now (weights .entry)) (now (marks .entry)) (now (counts .entry))) r (account (now (weights .exit)) (now (marks .exit)) (now (counts .exit))) ⌝ }
+    ensures { λ r. ⌜ ReadingReturned k count (account (now (weights .entry)) (now (marks .entry)) (now (counts .entry))) r (account (now (weights .exit)) (now (marks .exit)) (now (counts .exit))) ⌝ }
 {
     account::number_of(account::reading(weights, marks, counts, k, count))
 }
@@ -150,7 +148,7 @@ pub extern "C" fn arvadush_withdraw(
     counts: &mut [u64],
     k: usize,
 ) -> u8
-    ensures { λ r. ⌜ AccountReturned (λ a. withdrawNumber a k) (λ a. readingTaken a k) (account (now (weights .entry)) (now (marks .entry)) (now (counts .entry))) r (account (now (weights .exit)) (now (marks .exit)) (now (counts .exit))) ⌝ }
+    ensures { λ r. ⌜ WithdrawReturned k (account (now (weights .entry)) (now (marks .entry)) (now (counts .entry))) r (account (now (weights .exit)) (now (marks .exit)) (now (counts .exit))) ⌝ }
 {
     account::number_of(account::withdraw(weights, marks, counts, k))
 }
@@ -158,7 +156,7 @@ pub extern "C" fn arvadush_withdraw(
 // Sets a cut at boundary k.
 #[no_mangle]
 pub extern "C" fn arvadush_cut(weights: &[u32], marks: &mut [u8], counts: &[u64], k: usize) -> u8
-    ensures { λ r. ⌜ AccountReturned (λ a. cutNumber a k) (λ a. cutPut a k) (account (now (weights .entry)) (now (marks .entry)) (now (counts .entry))) r (account (now (weights .exit)) (now (marks .exit)) (now (counts .exit))) ⌝ }
+    ensures { λ r. ⌜ CutReturned k (account (now (weights .entry)) (now (marks .entry)) (now (counts .entry))) r (account (now (weights .exit)) (now (marks .exit)) (now (counts .exit))) ⌝ }
 {
     account::number_of(account::cut(weights, marks, counts, k))
 }
@@ -166,7 +164,7 @@ pub extern "C" fn arvadush_cut(weights: &[u32], marks: &mut [u8], counts: &[u64]
 // Removes the cut at boundary k.
 #[no_mangle]
 pub extern "C" fn arvadush_uncut(weights: &[u32], marks: &mut [u8], counts: &[u64], k: usize) -> u8
-    ensures { λ r. ⌜ AccountReturned (λ a. uncutNumber a k) (λ a. cutTaken a k) (account (now (weights .entry)) (now (marks .entry)) (now (counts .entry))) r (account (now (weights .exit)) (now (marks .exit)) (now (counts .exit))) ⌝ }
+    ensures { λ r. ⌜ UncutReturned k (account (now (weights .entry)) (now (marks .entry)) (now (counts .entry))) r (account (now (weights .exit)) (now (marks .exit)) (now (counts .exit))) ⌝ }
 {
     account::number_of(account::uncut(weights, marks, counts, k))
 }

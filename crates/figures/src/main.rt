@@ -304,7 +304,7 @@ fn daily_amount(value: u64, weight: u32) {
     answered(customer::daily_amount(value, weight));
 }
 
-// The examples of document 000, tables 18 to 23 and lines 1038 to 1040, and the largest customer value.
+// The examples of document 000 (tables 18 to 23, and the daily amounts of two customers beside them), and the largest customer value.
 fn customers() {
     customer_value(23_185_000, 329_581_001);
     customer_value(958_000, 379_356_309);

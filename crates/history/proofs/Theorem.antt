@@ -1,8 +1,9 @@
 -- Demand 3: `demand3` proves specs/Demand3.antt for every accepted open and every list of calls that runs after it. Assumes nothing.
-use Prim.Native.Nat.{ℕ, _≤_}
+use Prim.Native.Nat.{ℕ, suc, _≤_}
 use mathlib.Core.Path.{_≡_, sym, _∙_, subst₂}
 use mathlib.Core.Bool.{true}
 use mathlib.Core.List.{List}
+use native.Mathlib.Omega.{arith}
 use lib.Dec.{lit<}
 use lib.ListN.{length}
 use Rattle.account.specs.declared.Answer.{Answer}
@@ -10,6 +11,8 @@ use Rattle.account.specs.Stands.{Stands, nothing}
 use Rattle.account.specs.Account.{Account, days, shown}
 use Rattle.account.specs.Refusals.{openNumber}
 use Rattle.account.specs.Calls.{OpenMet, number}
+use Rattle.account.proofs.Pairs.{pairs}
+use Rattle.account.proofs.Sound.{sound-parts}
 use Rattle.account.proofs.Rows.{Checked, row-none}
 use Rattle.account.proofs.Keeps.{Holds, shown-inside, open-keeps}
 use Rattle.statement.specs.declared.StatementAnswer.the-variants.{Parts}
@@ -44,6 +47,10 @@ by a lent m b out f met =
       inside = shown-inside a (f .fits);
     }
 
+rises : (a : Account) → Checked a → (p q : ℕ) → p ≤ q → q ≤ days a → shown a .readings .at p ≡ true → shown a .readings .at q ≡ true →
+    shown a .readings .count p ≤ shown a .readings .count q
+rises a f p q le below = pairs (shown a .readings) (suc (days a)) (sound-parts a (f .sound) .order) (suc (days a)) (omega arith) p q le (omega arith)
+
 module _ (w : List ℕ) (opened : Account) (start : Holds w nothing opened) (es : List Event) (runs : Run opened es) where
   before-each : (before : List Event) (e : Event) → Among es before e → (a : Account) × Holds w (standing w before) a × Step a e
   before-each before e (rest, is) = along w nothing opened start before e rest (rw is at runs)
@@ -65,6 +72,11 @@ module _ (w : List ℕ) (opened : Account) (start : Holds w nothing opened) (es 
             (holds .weighs) (holds .shows) (rw (← (met .answers)) at (met .writes));
         statements = λ before m out g. let by = given before m out g in (by .counts, by .writes);
         successive = λ before m out g. let by = given before m out g in rw (by .counts, by .writes) (successive w (standing w before) (by .two));
+        rising =
+            λ before e among.
+            let (a, holds, met) = before-each before e among in
+            subst₂ (λ v s. (p q : ℕ) → p ≤ q → q ≤ length v → s .readings .at p ≡ true → s .readings .at q ≡ true → s .readings .count p ≤ s .readings .count q)
+            (holds .weighs) (holds .shows) (rises a (holds .checked));
         sums = λ before m out g. let by = given before m out g in rw (by .counts, by .writes) (sums-up w (standing w before) (by .valid) (by .two));
         shares =
             λ before m out g i below.

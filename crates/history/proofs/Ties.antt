@@ -1,4 +1,5 @@
 -- The calls of demand 3 are the crates' own functions: each contract is the step by computation, so one that is weakened breaks this.
+-- Assumes nothing.
 use mathlib.Core.Path.{refl}
 use Rattle.history.specs.Tied.{Tied}
 

@@ -55,6 +55,10 @@ pub record Demand3 (w : List ℕ) (es : List Event) : Type 0 where
   -- "Parts run between successive marked boundaries from the first reading to the last."
   pub successive : (before : List Event) (m : ℕ) (out : Outputs) → Given es before m out →
       Successive (length w) (standing w before) out m
+  -- No standing reading has less than an earlier one, so that "less" and E below are differences.
+  pub rising : (before : List Event) (e : Event) → Among es before e → (p q : ℕ) → p ≤ q → q ≤ length w →
+      standing w before .readings .at p ≡ true → standing w before .readings .at q ≡ true →
+      standing w before .readings .count p ≤ standing w before .readings .count q
   -- "Its parts add up exactly to the last standing reading less the first."
   pub sums : (before : List Event) (m : ℕ) (out : Outputs) → Given es before m out →
       total out m ≡ lastLessFirst (length w) (standing w before .readings)

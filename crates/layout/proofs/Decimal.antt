@@ -5,13 +5,13 @@ use mathlib.Core.List.{[], _∷_}
 use Prim.Native.Nat.{ℕ, zero, suc, _-_, _*_, _/_, _%_, _^_, _≤_, _<_}
 use native.Mathlib.Nat.{div-lt-iff-lt-mul, le-div-iff-mul-le, pow-suc, one-le-pow, pow-le-pow-right, le-of-suc-le-suc}
 use native.Mathlib.Decide.{decLe}
-use native.Mathlib.Numerals.{add-one}
+use native.Mathlib.Numerals.{add-one, sub-one}
 use native.Mathlib.Omega.{arith}
-use borrow.Author.Tests.{lt-ltb, le-ltb}
+use borrow.Author.Tests.{lt-ltb, le-ltb, ltb-true, ltb-false}
 use lib.Dec.{lit<, ltb}
 use lib.ListN.{length, length-append}
 use Rattle.io.specs.Digits.{digits, Fewest, glyph}
-use Rattle.layout.specs.Text.{digitCount, decimal}
+use Rattle.layout.specs.Text.{digitCount, decimal, FewestDigits}
 
 -- n has k + 1 digits
 places-is : (more k n : ℕ) → k ≤ more → n < 10 ^ suc k → (0 < k → 10 ^ k ≤ n) → digitCount more n ≡ suc k
@@ -42,7 +42,7 @@ fewest-small n k fits fewest =
           absurd (omega (arith, fewest .2 (omega arith)))
     ]
 
-pub fewest-places : (n k : ℕ) → Fewest 10 1 n k → k ≤ 20 → digitCount 20 n ≡ k
+fewest-places : (n k : ℕ) → Fewest 10 1 n k → k ≤ 20 → digitCount 20 n ≡ k
 fewest-places n zero fewest small = absurd (omega arith)
 fewest-places n (suc k) fewest small =
     let pred : suc k - 1 ≡ k = omega arith in
@@ -68,3 +68,29 @@ places-most (suc more) n = by (ltb n 10) (places-most more (n / 10))
 pub decimal-most : (n : ℕ) → length (decimal n) ≤ 21
 unfolding decimal
 decimal-most n = omega (arith, length-digits (digitCount 20 n) n, places-most 20 n)
+
+-- as many digits as are counted hold the number, and fewer do not
+places-fewest : (more n : ℕ) → n < 10 ^ suc more → Fewest 10 1 n (digitCount more n)
+unfolding digitCount
+places-fewest zero n l = (omega arith, l, λ h. absurd (omega arith))
+places-fewest (suc more) n l =
+    let high : n < 10 ^ suc more * 10 = rw pow-suc at l in
+    go (ltb n 10) refl (digitCount more (n / 10)) (places-fewest more (n / 10) (div-lt-iff-lt-mul (lit< tt) .1 high))
+  where
+    low : (k : ℕ) → 10 ≤ n → Fewest 10 1 (n / 10) k → 10 ^ k ≤ n
+    low zero ten f = omega arith
+    low (suc zero) ten f = ten
+    low (suc (suc k)) ten f = rw pow-suc (le-div-iff-mul-le (lit< tt) .0 (rw sub-one at (f .2 (omega arith))))
+
+    go : (b : Bool) → ltb n 10 ≡ b → (k : ℕ) → Fewest 10 1 (n / 10) k → Fewest 10 1 n (cond b 1 (suc k))
+    go true e k f = (omega arith, ltb-true n 10 e, λ h. absurd (omega arith))
+    go false e k f = (omega arith, rw pow-suc (div-lt-iff-lt-mul (lit< tt) .0 (f .1)), λ h. rw sub-one (low k (ltb-false n 10 e) f))
+
+pub counted : (n : ℕ) → n < 2 ^ 64 → Fewest 10 1 n (digitCount 20 n)
+counted n l = places-fewest 20 n (omega (arith, l))
+
+pub fewest-digits : FewestDigits
+unfolding decimal
+fewest-digits n l =
+    let (some, holds, fewest) = counted n l in
+    rw (length-digits (digitCount 20 n) n) (omega (arith, some), holds, λ more. fewest (omega arith))

@@ -11,7 +11,7 @@ use Rattle.statement.specs.Parts.{Outputs}
 use Rattle.statement.specs.Shares.{total}
 use Rattle.layout.specs.Text.{LaidOut, TextMet, noStatement, statementText, partsText}
 
-pub sets-append : (o : List ℕ) (at : ℕ) (xs ys : List ℕ) → sets (sets o at xs) (at + length xs) ys ≡ sets o at (xs ++ ys)
+sets-append : (o : List ℕ) (at : ℕ) (xs ys : List ℕ) → sets (sets o at xs) (at + length xs) ys ≡ sets o at (xs ++ ys)
 sets-append o at [] ys = rw add-zero
 sets-append o at (x ∷ xs) ys =
     let e : at + suc (length xs) ≡ suc at + length xs = omega arith in
@@ -46,8 +46,8 @@ module _ {text out : List ℕ} {next : ℕ} {after : List ℕ} (laid : LaidOut 0
 
 -- what is laid out where there can be no such statement: nothing
 pub none-laid : (o : Outputs) (m : ℕ) (out : List ℕ) → noStatement o m ≡ true → TextMet (statementText o m) out 0 out o o
-none-laid o m out no-such = rw no-such (record { laid = record { ends = refl; stored = refl }; stays = refl })
+none-laid o m out no-such = rw no-such (record { prints = record { ends = refl; stored = refl }; stays = refl })
 
 pub given-laid : (o : Outputs) (m sum : ℕ) (out : List ℕ) (next : ℕ) (after : List ℕ) →
     noStatement o m ≡ false → sum ≡ total o m → LaidOut 0 (partsText o m sum) out next after → TextMet (statementText o m) out next after o o
-given-laid o m sum out next after such is text = rw such (record { laid = rw is at text; stays = refl })
+given-laid o m sum out next after such is text = rw such (record { prints = rw is at text; stays = refl })

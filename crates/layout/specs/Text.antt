@@ -1,13 +1,13 @@
 -- The printed statement and refusal (Case file): "First the number of parts, then from, to, Wh of each, then their sum. A refusal prints
 -- one line: `refused`, its number and the place (0 if it has none), single spaces between." Text is a list of ASCII codes.
-use Prim.Native.Nat.{ℕ, zero, suc, _+_, _/_}
+use Prim.Native.Nat.{ℕ, zero, suc, _+_, _/_, _^_, _<_}
 use mathlib.Core.Path.{_≡_}
 use mathlib.Core.Bool.{Bool, cond, _||_}
 use mathlib.Core.List.{List, [], _∷_, _++_}
 use lib.Dec.{ltb, eqb}
 use lib.ListN.{length, getD}
 use lib.Seq.{sets}
-use Rattle.io.specs.Digits.{digits}
+use Rattle.io.specs.Digits.{digits, Fewest}
 use Rattle.account.specs.Below.{somewhere}
 use Rattle.account.specs.Account.{energyMost}
 use Rattle.profile.specs.Limits.{spanMost}
@@ -21,6 +21,11 @@ digitCount (suc more) n = cond (ltb n 10) 1 (suc (digitCount more (n / 10)))
 
 unfoldable pub decimal : ℕ → List ℕ
 decimal n = digits 10 (digitCount 20 n) n
+
+-- a number of 64 bits is printed with the fewest digits that hold it, at least one, so no leading zero but in 0 itself (proofs/Decimal,
+-- `fewest-digits`)
+abbrev pub FewestDigits : Type 0
+FewestDigits = (n : ℕ) → n < 2 ^ 64 → Fewest 10 1 n (length (decimal n))
 
 abbrev pub space : List ℕ
 space = 32 ∷ []
@@ -84,5 +89,5 @@ pub record LaidOut (at : ℕ) (text before : List ℕ) (next : ℕ) (after : Lis
 module _ {A : Type 0} where
   -- such a text at the start of a slice, what it is made of being lent and unchanged
   pub record TextMet (text before : List ℕ) (next : ℕ) (after : List ℕ) (lent kept : A) : Type 0 where
-    pub laid : LaidOut 0 text before next after
+    pub prints : LaidOut 0 text before next after
     pub stays : kept ≡ lent

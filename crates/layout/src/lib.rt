@@ -18,8 +18,6 @@ ghost use Rattle.statement.specs.Shares.{total};
 ghost use Rattle.layout.specs.Text.{LaidOut, TextMet, statementText, refusalText, doneText, unknownText, lineOf, partLines, partsText};
 ghost use Rattle.layout.specs.Accounts.{accountText, answeredText};
 
-const SPAN: usize = Profile::SPAN;
-
 // No text of a statement or a refusal is longer.
 pub const TEXT_MOST: usize = 72_390;
 
@@ -54,7 +52,7 @@ pub fn statement_text(from: &[u16], to: &[u16], wh: &[u64], parts: usize, out: &
     if parts == 0 {
         return 0;
     }
-    if SPAN < parts {
+    if Profile::SPAN < parts {
         return 0;
     }
     if from.len() < parts {
@@ -144,17 +142,17 @@ fn lines(from: &[u16], to: &[u16], wh: &[u64], parts: usize, out: &mut [u8], at:
 pub fn account_text(weights: &[u32], marks: &[u8], counts: &[u64], out: &mut [u8]) -> usize
     ensures { λ r. ⌜ TextMet (accountText (account (now (weights .entry)) (now (marks .entry)) (now (counts .entry)))) (now (out .entry)) r (now (out .exit)) (account (now (weights .entry)) (now (marks .entry)) (now (counts .entry))) (account (now (weights .exit)) (now (marks .exit)) (now (counts .exit))) ⌝ }
 {
-    if SPAN < weights.len() {
+    if Profile::SPAN < weights.len() {
         return refusal_text(3, 0, out);
     }
-    let mut from = [0u16; SPAN];
-    let mut to = [0u16; SPAN];
-    let mut wh = [0u64; SPAN];
-    by_way_of(weights, marks, counts, &mut from, &mut to, &mut wh, out)
+    let mut from = [0u16; Profile::SPAN];
+    let mut to = [0u16; Profile::SPAN];
+    let mut wh = [0u64; Profile::SPAN];
+    with_outputs(weights, marks, counts, &mut from, &mut to, &mut wh, out)
 }
 
 // The same, by way of outputs that are long enough.
-fn by_way_of(
+fn with_outputs(
     weights: &[u32],
     marks: &[u8],
     counts: &[u64],

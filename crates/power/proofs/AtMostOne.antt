@@ -23,7 +23,7 @@ module _ (way : Rounding) where
   unfolding nextRoot
   next-le r h = root-le way (r * one) one (mul-le-mul-right one h)
 
-  pub cond-le : (b : Bool) (p r : ℕ) → p ≤ one → r ≤ one → cond b (scaledProduct way p r) p ≤ one
+  cond-le : (b : Bool) (p r : ℕ) → p ≤ one → r ≤ one → cond b (scaledProduct way p r) p ≤ one
   cond-le true p r hp hr = product-le p r hp hr
   cond-le false p r hp hr = hp
 
@@ -32,7 +32,7 @@ module _ (way : Rounding) where
   raise-le zero r p hr hp = hp
   raise-le (suc n) r p hr hp = raise-le n r (scaledProduct way p r) hr (product-le p r hp hr)
 
-  pub climb-le : (k r p c : ℕ) → r ≤ one → p ≤ one → climb way k r p c ≤ one
+  climb-le : (k r p c : ℕ) → r ≤ one → p ≤ one → climb way k r p c ≤ one
   unfolding climb
   climb-le zero r p c hr hp = hp
   climb-le (suc k) r p c hr hp = climb-le k (nextRoot way r) _ c (next-le r hr) (cond-le (eqb (c / 2 ^ k % 2) 1) p (nextRoot way r) hp (next-le r hr))

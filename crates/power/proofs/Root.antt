@@ -10,7 +10,7 @@ use lib.Dec.{ltb}
 use borrow.Author.Tests.{ltb-true, ltb-false}
 use Rattle.power.specs.declared.rounded.Rounding.{Rounding}
 use Rattle.power.specs.declared.rounded.Rounding.the-variants.{Down, Up}
-use Rattle.power.specs.Power.{one, newton, sqrtDown, RootDown, sqrtUp, RootUp, Roots, squareRoot}
+use Rattle.power.specs.Power.{one, newton, RoundedDown, RoundedUp, sqrtDown, sqrtUp, square, Roots, squareRoot}
 use Rattle.power.proofs.Way.{Rounded, below, above}
 
 -- with b = a + d, a² + b² is 2ab and d² more
@@ -56,10 +56,10 @@ square-lt a b h = either (decLe b a)
 square-le : (a b : ℕ) → a * a ≤ b * b → a ≤ b
 square-le a b h = omega (arith, square-lt a (b + 1) (omega (arith, add-mul b 1 (b + 1), mul-add b b 1)))
 
-greatest : {x s : ℕ} → RootDown x s → (t : ℕ) → t * t ≤ x → t ≤ s
+greatest : {x s : ℕ} → RoundedDown square x s → (t : ℕ) → t * t ≤ x → t ≤ s
 greatest {x} {s} r t h = omega (arith, square-lt t (s + 1) (lt-of-le-of-lt h (r .next)))
 
-newton-root : (k x s : ℕ) → s ≤ k → x < (s + 1) * (s + 1) → RootDown x (newton k x s)
+newton-root : (k x s : ℕ) → s ≤ k → x < (s + 1) * (s + 1) → RoundedDown square x (newton k x s)
 unfolding newton
 newton-root zero x s h g =
     let e : s ≡ 0 = omega arith in
@@ -69,7 +69,7 @@ newton-root (suc k) x s h g = turn (newton-root k x ((s + x / s) / 2)) (ltb x (s
     s′ : ℕ
     s′ = (s + x / s) / 2
 
-    turn : (s′ ≤ k → x < (s′ + 1) * (s′ + 1) → RootDown x (newton k x s′)) → (b : Bool) → ltb x (s * s) ≡ b → RootDown x (elim b [ true ↦ newton k x s′ | false ↦ s ])
+    turn : (s′ ≤ k → x < (s′ + 1) * (s′ + 1) → RoundedDown square x (newton k x s′)) → (b : Bool) → ltb x (s * s) ≡ b → RoundedDown square x (elim b [ true ↦ newton k x s′ | false ↦ s ])
     turn rest true e =
         let l : x < s * s = ltb-true x (s * s) e in
         rest (omega (arith, mean-below x s l)) (mean-above x s (square-pos x s l))
@@ -79,21 +79,21 @@ pub one-pos : 0 < one
 unfolding one
 one-pos = omega arith
 
-pub root-down : (x : ℕ) → RootDown x (sqrtDown x)
+pub root-down : (x : ℕ) → RoundedDown square x (sqrtDown x)
 unfolding sqrtDown
 root-down x = newton-root _ x _ (le-refl _) (mean-above x one one-pos)
 
-pub root-down-only : (x s : ℕ) → RootDown x s → s ≡ sqrtDown x
+pub root-down-only : (x s : ℕ) → RoundedDown square x s → s ≡ sqrtDown x
 root-down-only x s r = le-antisymm (greatest (root-down x) s (r .low)) (greatest r (sqrtDown x) (root-down x .low))
 
-pub root-up : (x : ℕ) → RootUp x (sqrtUp x)
+root-up : (x : ℕ) → RoundedUp square x (sqrtUp x)
 unfolding sqrtUp
 root-up x = turn (ltb (d * d) x) refl
   where
     d : ℕ
     d = sqrtDown x
 
-    turn : (b : Bool) → ltb (d * d) x ≡ b → RootUp x (cond b (d + 1) d)
+    turn : (b : Bool) → ltb (d * d) x ≡ b → RoundedUp square x (cond b (d + 1) d)
     turn true e =
         record {
           high = le-of-lt (root-down x .next);
@@ -105,7 +105,7 @@ root-up x = turn (ltb (d * d) x) refl
           least = λ (t : ℕ) (h : x ≤ t * t). square-le d t (le-trans (root-down x .low) h);
         }
 
-pub root-up-only : (x s : ℕ) → RootUp x s → s ≡ sqrtUp x
+root-up-only : (x s : ℕ) → RoundedUp square x s → s ≡ sqrtUp x
 root-up-only x s r = le-antisymm (r .least (sqrtUp x) (root-up x .high)) (root-up x .least s (r .high))
 
 pub roots : Roots
@@ -121,7 +121,7 @@ unfolding squareRoot
 root-le Down x s h = square-le (sqrtDown x) s (le-trans (root-down x .low) h)
 root-le Up x s h = root-up x .least s h
 
-pub le-root : (way : Rounding) (x s : ℕ) → s * s ≤ x → s ≤ squareRoot way x
+le-root : (way : Rounding) (x s : ℕ) → s * s ≤ x → s ≤ squareRoot way x
 unfolding squareRoot
 le-root Down x s h = greatest (root-down x) s h
 le-root Up x s h = square-le s (sqrtUp x) (le-trans h (root-up x .high))

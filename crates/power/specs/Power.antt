@@ -10,10 +10,29 @@ use Rattle.power.specs.declared.rounded.Rounding.the-variants.{Down, Up}
 unfoldable pub one : ℕ
 one = 2 ^ 30
 
+-- "rounded down": the greatest s that f takes to at most x, f growing
+pub record RoundedDown (f : ℕ → ℕ) (x s : ℕ) : Type 0 where
+  pub low : f s ≤ x
+  pub next : x < f (s + 1)
+
+-- "rounded up": the least s that f takes to at least x
+pub record RoundedUp (f : ℕ → ℕ) (x s : ℕ) : Type 0 where
+  pub high : x ≤ f s
+  pub least : (t : ℕ) → x ≤ f t → s ≤ t
+
+-- these two numbers, and no others
+abbrev pub Rounds : (ℕ → ℕ) → (x down up : ℕ) → Type 0
+Rounds f x down up =
+    RoundedDown f x down × RoundedUp f x up × ((s : ℕ) → RoundedDown f x s → s ≡ down) × ((s : ℕ) → RoundedUp f x s → s ≡ up)
+
 -- a / b as a whole number, "rounded down" or "rounded up"
 unfoldable pub quotient : Rounding → ℕ → ℕ → ℕ
 quotient Down a b = a / b
 quotient Up a b = (a + (b - 1)) / b
+
+-- for every a and every b above 0 (proofs/Quotient, `quotients`)
+abbrev pub Quotients : Type 0
+Quotients = (a b : ℕ) → 0 < b → Rounds (λ q. q * b) a (quotient Down a b) (quotient Up a b)
 
 -- a / b rounded up, the name under which a profile's values use it
 abbrev pub upward : ℕ → ℕ → ℕ
@@ -40,27 +59,18 @@ sqrtDown x =
     let s : ℕ = (one + x / one) / 2 in
     newton s x s
 
--- s is the square root of x rounded down
-pub record RootDown (x s : ℕ) : Type 0 where
-  pub low : s * s ≤ x
-  pub next : x < (s + 1) * (s + 1)
-
 -- the least s with x ≤ s * s
 unfoldable pub sqrtUp : ℕ → ℕ
 sqrtUp x =
     let s : ℕ = sqrtDown x in
     cond (ltb (s * s) x) (s + 1) s
 
--- s is the square root of x rounded up
-pub record RootUp (x s : ℕ) : Type 0 where
-  pub high : x ≤ s * s
-  pub least : (t : ℕ) → x ≤ t * t → s ≤ t
+abbrev pub square : ℕ → ℕ
+square s = s * s
 
--- for every x these are its roots, and no other number is (proofs/Root, `roots`)
+-- for every x these are its roots (proofs/Root, `roots`)
 abbrev pub Roots : Type 0
-Roots =
-    (x : ℕ) → RootDown x (sqrtDown x) × RootUp x (sqrtUp x) ×
-    ((s : ℕ) → RootDown x s → s ≡ sqrtDown x) × ((s : ℕ) → RootUp x s → s ≡ sqrtUp x)
+Roots = (x : ℕ) → Rounds square x (sqrtDown x) (sqrtUp x)
 
 unfoldable pub squareRoot : Rounding → ℕ → ℕ
 squareRoot Down x = sqrtDown x

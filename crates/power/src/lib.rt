@@ -3,6 +3,7 @@ mod ladder;
 mod rounded;
 
 pub use ladder::Bounds;
+pub use rounded::ONE;
 use rounded::Rounding;
 ghost use mathlib.Core.Path.{_≡_};
 ghost use Rattle.power.specs.Power.{lowerOf, upperOf, BoundsMet};

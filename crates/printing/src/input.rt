@@ -8,7 +8,7 @@ ghost use Rattle.casefile.specs.Length.{bytesRead};
 ghost use Rattle.report.specs.Report.{CaseTextMet};
 
 // Its fields are private: only `read` can fill one.
-pub(crate) struct Input {
+pub struct Input {
     buffer: [u8; FILE_READ],
     read: usize,
 }

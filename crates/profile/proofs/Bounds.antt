@@ -51,10 +51,10 @@ high-share-le p t = go (cold p t)
 pub curve-small : (a s : ℕ) → a < 2 ^ 24 → s ≤ 2 ^ 30 → a * 100 * s < 2 ^ 61
 curve-small a s h k = omega (arith, mul-le-mul h k)
 
-pub curve-le : (a s : ℕ) → s ≤ one → a * 100 * s / one ≤ a * 100
+curve-le : (a s : ℕ) → s ≤ one → a * 100 * s / one ≤ a * 100
 curve-le a s h = down-le (a * 100 * s) one (a * 100) (mul-le-mul-left (a * 100) h)
 
-pub curve-up-le : (a s : ℕ) → s ≤ one → upward (a * 100 * s) one ≤ a * 100
+curve-up-le : (a s : ℕ) → s ≤ one → upward (a * 100 * s) one ≤ a * 100
 unfolding one
 curve-up-le a s h = up-le (a * 100 * s) one (a * 100) (lit< tt) (mul-le-mul-left (a * 100) h)
 
@@ -70,11 +70,11 @@ module _ (p : Profile) (ok : Tested p) where
       (larger-le (line-le (p .mh) (p .bh) (ok .heating-falls) h) (line-le (p .mw) (p .bw) (ok .water-falls) h))
 
   module _ (t : ℤ) (r : inRange t ≡ true) (curve : ℕ) (h : curve ≤ p .a * 100) where
-    pub value-least : least p ≤ℤ (pos curve +ℤ linear p t)
+    value-least : least p ≤ℤ (pos curve +ℤ linear p t)
     value-least =
         by-parts (omega (arith, parts (linear-le (le-warm t r)), less-sum (pos curve) (linear p t) .less))
 
-    pub value-most : (pos curve +ℤ linear p t) ≤ℤ most p
+    value-most : (pos curve +ℤ linear p t) ≤ℤ most p
     value-most =
         by-parts
         (omega (
@@ -112,12 +112,12 @@ module _ (k : ℕ) (t : ℤ) (h : k < profileCount) (r : inRange t ≡ true) whe
   pub low-bounded : valueLow (profileOf k) t ≤ℤ pos (10 ^ 10)
   low-bounded = le-trans low-most (profile-tested k h .bounded)
 
-  pub high-natural : pos 0 ≤ℤ valueHigh (profileOf k) t
+  high-natural : pos 0 ≤ℤ valueHigh (profileOf k) t
   unfolding valueHigh
   high-natural =
       le-trans (profile-tested k h .natural) (value-least (profileOf k) (profile-tested k h) t r _ high-curve)
 
-  pub high-bounded : valueHigh (profileOf k) t ≤ℤ pos (10 ^ 10)
+  high-bounded : valueHigh (profileOf k) t ≤ℤ pos (10 ^ 10)
   unfolding valueHigh
   high-bounded =
       le-trans (value-most (profileOf k) (profile-tested k h) t r _ high-curve) (profile-tested k h .bounded)

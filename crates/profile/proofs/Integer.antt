@@ -3,7 +3,8 @@
 use mathlib.Core.Path.{_≡_, _∙_, refl, ap}
 use mathlib.Core.Bool.{Bool, true, false, not, cond}
 use Prim.Native.Nat.{ℕ, zero, suc, _+_, _*_, _-_, _/_, _%_, _≤_, _<_, _^_}
-use native.Mathlib.Nat.{mul-le-mul-left, mul-le-mul-right, zero-mul, zero-add, lt-trans, lt-suc-self, le-div-iff-mul-le, div-mul-le-self, mod-lt, div-add-mod'}
+use native.Mathlib.Nat.{mul-le-mul-left, mul-le-mul-right, zero-mul, zero-add, lt-trans, lt-suc-self, lt-of-not-le, le-div-iff-mul-le, div-mul-le-self, mod-lt, div-add-mod'}
+use native.Mathlib.Decide.{decLe}
 use native.Mathlib.Omega.{arith}
 use lib.Dec.{T, leb, ltb, leb→le, le→leb, ltb→lt, nltb→le, nleb→lt}
 use lib.IntN.{ℤ, pos, negsuc, negℤ, natAbs, subℕ, _+ℤ_, _-ℤ_, _*ℤ_}
@@ -12,7 +13,7 @@ use mir.Syntax.{Width, w64}
 use mir.Val.{SFits, hbits, ofZ, toZ}
 use mir.Facts.{toZ-ofZ, sfits-widen}
 use Rattle.profile.specs.Value.{larger}
-use Rattle.profile.specs.Weight.{floorℤ, FloorIs}
+use Rattle.profile.specs.Weight.{floorℤ, IsFloor, OneFloor}
 
 abbrev pub above : ℤ → ℕ
 above (pos n) = n
@@ -202,7 +203,7 @@ same-less (pos a) (negsuc b) e = absurd (omega (arith, e))
 same-less (negsuc a) (pos b) e = absurd (omega (arith, e))
 same-less (negsuc a) (negsuc b) e = ap negsuc (omega (arith, e))
 
-pub floor-is : FloorIs
+floor-is : (x : ℤ) (d : ℕ) → 0 < d → IsFloor x d (floorℤ x d)
 floor-is (pos n) d l =
     record {
       rest = n % d;
@@ -220,3 +221,30 @@ floor-is (negsuc n) d l =
           same-less (negsuc n) (negsuc (n / d) *ℤ pos d +ℤ pos rest)
           (omega (arith, less-product (negsuc (n / d)) (pos d), less-sum (negsuc (n / d) *ℤ pos d) (pos rest), div-add-mod' n d, mod-lt n l));
     }
+
+-- of two multiples of d the first is less than d above the second only if its factor is no greater
+no-more : (a b d : ℕ) → a * d < b * d + d → a ≤ b
+no-more a b d h = either (decLe a b)
+  where
+    either : Dec (a ≤ b) → a ≤ b
+    either (yes l) = l
+    either (no f) = absurd (omega (arith, h, mul-le-mul-right d (lt-of-not-le f)))
+
+-- two numbers whose multiples of d are less than d apart, either way, are one
+pub one-multiple : (p q : ℤ) (d : ℕ) → (above p + below q) * d < (below p + above q) * d + d → (below p + above q) * d < (above p + below q) * d + d → p ≡ q
+one-multiple p q d h k = same-less p q (omega (arith, no-more (above p + below q) (below p + above q) d h, no-more (below p + above q) (above p + below q) d k))
+
+-- a floor in parts
+pub floor-parts : {x q : ℤ} {d : ℕ} (f : IsFloor x d q) → above x + below q * d ≡ below x + above q * d + f .rest
+floor-parts {x} {q} {d} f =
+    omega (arith, ap above (f .adds-up), ap below (f .adds-up), less-product q (pos d), less-sum (q *ℤ pos d) (pos (f .rest)))
+
+pub one-floor : OneFloor
+one-floor x d l = (floor-is x d l, only)
+  where
+    only : (q : ℤ) → IsFloor x d q → q ≡ floorℤ x d
+    only q is =
+        let f = floor-is x d l in
+        one-multiple q (floorℤ x d) d
+        (omega (arith, floor-parts is, floor-parts f, f .small, is .small))
+        (omega (arith, floor-parts is, floor-parts f, f .small, is .small))

@@ -19,9 +19,9 @@ pub record IsFloor (x : ℤ) (d : ℕ) (q : ℤ) : Type 0 where
   pub small : rest < d
   pub adds-up : x ≡ q *ℤ pos d +ℤ pos rest
 
--- for every x (proofs/Integer, `floor-is`)
-abbrev pub FloorIs : Type 0
-FloorIs = (x : ℤ) (d : ℕ) → 0 < d → IsFloor x d (floorℤ x d)
+-- where d is above 0 there is one such q, `floorℤ x d` (proofs/Integer, `one-floor`)
+abbrev pub OneFloor : Type 0
+OneFloor = (x : ℤ) (d : ℕ) → 0 < d → IsFloor x d (floorℤ x d) × ((q : ℤ) → IsFloor x d q → q ≡ floorℤ x d)
 
 -- the factor F of a profile's weekday, Monday 0 to Sunday 6
 abbrev pub factorOf : ℕ → ℕ → ℕ
@@ -31,7 +31,7 @@ factorOf k weekday = getD (profileOf k .factors) weekday 0
 abbrev pub floorWeight : ℕ → ℕ → ℤ → ℤ
 floorWeight k weekday t = floorℤ (valueLow (profileOf k) t *ℤ pos (factorOf k weekday)) 10_000_000
 
--- its size, which is the same for every weight of the table (`WholeTable`)
+-- the same as a natural number: no weight of the table is below zero (`WholeTable`)
 unfoldable pub weightOf : ℕ → ℕ → ℤ → ℕ
 weightOf k weekday t = natAbs (floorWeight k weekday t)
 

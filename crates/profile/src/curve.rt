@@ -1,6 +1,7 @@
 // The parts of a profile value in units of 10^-9 (Profile value).
 use super::Profile;
 use super::table;
+use power::ONE;
 ghost use mathlib.Core.Path.{_≡_};
 ghost use mathlib.Core.Bool.{true};
 ghost use Prim.Native.Nat.{_<_, _≤_, _+_, _*_, _/_, _^_};
@@ -10,8 +11,6 @@ ghost use Rattle.profile.specs.Weight.{weightOf};
 ghost use Rattle.profile.specs.Steps.{RatioMet, SharesMet, LineMet, LargerMet, ValuesMet};
 ghost use Rattle.power.specs.Power.{upward};
 ghost use Rattle.profile.specs.Value.{linear, uOf, sLow};
-
-const ONE: u64 = 1 << 30;
 
 // The value, low and high.
 pub(crate) struct Values {

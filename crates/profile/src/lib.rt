@@ -53,22 +53,19 @@ const NO_PROFILE: Profile = Profile {
 };
 
 impl Profile {
-    // The coldest mean, in hundredths of a degree C.
+    // Means, in hundredths of a degree C.
     pub const COLDEST: i16 = -5_000;
 
-    // The warmest mean.
     pub const WARMEST: i16 = 3_999;
 
-    // The least weight, in millionths.
+    // Weights, in millionths.
     pub const WEIGHT_LEAST: u32 = 1;
 
-    // The greatest weight.
     pub const WEIGHT_MOST: u32 = 6_999_999;
 
     // The days of the longest span.
     pub const SPAN: usize = 1_096;
 
-    // The number of profiles.
     pub const COUNT: u8 = 10;
 
     // The profile of a number, 0 to 9.

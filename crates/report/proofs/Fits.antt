@@ -24,4 +24,4 @@ case-most s lent =
 pub text-met : (s : List ℕ) (lent : Account) (text out : List ℕ) (next : ℕ) (after : Account) (written : List ℕ) →
     LaidOut 0 text out next written → caseText s lent ≡ text → after ≡ slicesAfter s lent → CaseTextMet s lent out next after written s
 text-met s lent text out next after written laid is writes =
-    record { says = rw is laid; fits = omega (arith, laid .ends, ap length is, case-most s lent); writes = writes; stays = refl }
+    record { prints = rw is laid; fits = omega (arith, laid .ends, ap length is, case-most s lent); writes = writes; stays = refl }

@@ -24,7 +24,7 @@ use Rattle.report.proofs.Fits.{case-most}
 -- slices of the right lengths, and a buffer that no text fills
 pub prints-file : (s : List ℕ) (lent : Account) (out : List ℕ) (next : ℕ) (after : Account) (printed kept : List ℕ) →
     CaseTextMet s lent out next after printed kept → unfitSlices lent ≡ false → textMost ≤ length out → take next printed ≡ fileText s
-prints-file s lent out next after printed kept met fit room = start-is (met .says) (omega (arith, case-most s lent, room)) ∙ rw fit refl
+prints-file s lent out next after printed kept met fit room = start-is (met .prints) (omega (arith, case-most s lent, room)) ∙ rw fit refl
 
 pub program-prints : ProgramPrints
 program-prints s = ap (λ (v : Fault). textOf v (take bytesRead s)) (enough s) ∙ go (decLt 0 (faultNumber (faultOf s)))

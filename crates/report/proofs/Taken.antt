@@ -15,7 +15,7 @@ use Rattle.account.proofs.Below.{clash, refuted}
 use Rattle.layout.specs.Text.{refusalText}
 use Rattle.casefile.specs.Case.{profileByte, weekdayByte, meansLength, meanOffset, daysOf, readingsOffset, readingsLength, readingOffset, readingBoundary, readingCount, cutsOffset, cutsLength, cutOffset, cutBoundary, endOf, accountOf}
 use Rattle.casefile.specs.Bytes.{signed16}
-use Rattle.casefile.specs.Faults.{Fault, noFault, refused, fault, _before_, firstFault, early, falls, meanFault, readingFault, cutFault, faultOf, headFault, meansFault, readingsFault}
+use Rattle.casefile.specs.Faults.{Fault, noFault, refused, fault, _before_, firstFault, early, failsToRise, meanFault, readingFault, cutFault, faultOf, headFault, meansFault, readingsFault}
 use Rattle.profile.specs.Rows.{filled}
 use Rattle.casefile.specs.Reader.{faultNumber, faultPlace, unfitSlices, verdict, full, ReadMet}
 use Rattle.casefile.specs.declared.CaseAnswer.the-variants.{Days, Refused}
@@ -55,7 +55,7 @@ module _ (s : List ℕ) where
   reading-numbered : (i : ℕ) → Numbered (readingFault s i)
   reading-numbered i =
       ends (readingOffset s i + 10) _ (
-      then (falls (readingBoundary s) i) 12 (readingOffset s i) _ (
+      then (failsToRise (readingBoundary s) i) 12 (readingOffset s i) _ (
       then (ltb (daysOf s) (readingBoundary s i)) 5 (readingOffset s i) _ (
       then (somewhere (λ j. ltb (readingCount s i) (readingCount s j)) i) 7 (readingOffset s i + 2) _
       (numbered-fault (ltb energyMost (readingCount s i - readingCount s 0)) 8 (readingOffset s i + 2)))))
@@ -63,7 +63,7 @@ module _ (s : List ℕ) where
   cut-numbered : (i : ℕ) → Numbered (cutFault s i)
   cut-numbered i =
       ends (cutOffset s i + 2) _ (
-      then (falls (cutBoundary s) i) 12 (cutOffset s i) _
+      then (failsToRise (cutBoundary s) i) 12 (cutOffset s i) _
       (numbered-fault (ltb (daysOf s) (cutBoundary s i)) 5 (cutOffset s i)))
 
   pub file-numbered : Numbered (faultOf s)
@@ -135,7 +135,7 @@ module _ (s : List ℕ) (lent : Account) (n : ℕ) (after : Account) (met : Read
   counts-long = kept .counts-long ∙ ap (λ (k : ℕ). k + 1) (sym days-are)
 
   -- the account at the start of the slices is the one that the file names
-  pub taken-is : account (take n (after .weights)) (take (n + 1) (after .marks)) (take (n + 1) (after .counts)) ≡ accountOf s
+  taken-is : account (take n (after .weights)) (take (n + 1) (after .marks)) (take (n + 1) (after .counts)) ≡ accountOf s
   taken-is =
       ap (λ (a : Account). account (take n (a .weights)) (take (n + 1) (a .marks)) (take (n + 1) (a .counts))) after-is ∙
       rw (filled-starts spanMost (accountOf s .weights) n weights-long, filled-starts (spanMost + 1) (accountOf s .marks) (n + 1) marks-long, filled-starts (spanMost + 1) (accountOf s .counts) (n + 1) counts-long) refl

@@ -42,7 +42,7 @@ ProgramPrints = (s : List ℕ) → fileText (take bytesRead s) ≡ fileText s
 
 -- the text of a case file that is read into these slices, what they hold after it, and the file unchanged
 pub record CaseTextMet (file : List ℕ) (lent : Account) (out : List ℕ) (next : ℕ) (after : Account) (printed kept : List ℕ) : Type 0 where
-  pub says : LaidOut 0 (caseText file lent) out next printed
+  pub prints : LaidOut 0 (caseText file lent) out next printed
   pub fits : next ≤ textMost
   pub writes : after ≡ slicesAfter file lent
   pub stays : kept ≡ file

@@ -1,4 +1,4 @@
--- The calls of a script (the console: docs/GUIDE.md): `weights W W ..`, `days PROFILE WEEKDAY MEAN MEAN ..`, `reading K COUNT`, `withdraw K`, `cut K`, `uncut K`, `statement`.
+-- The calls of a script (docs/GUIDE.md, The console): `weights W W ..`, `days PROFILE WEEKDAY MEAN MEAN ..`, `reading K COUNT`, `withdraw K`, `cut K`, `uncut K`, `statement`.
 -- Empty lines and lines that begin with `#` are no call; a line that is no call, or has a number that the call's type can't hold, is unknown.
 use Prim.Native.Nat.{ℕ}
 use mathlib.Core.Bool.{Bool, cond}

@@ -1,4 +1,4 @@
--- How much of an input is run as a script (the console: docs/GUIDE.md): at most 65,536 bytes, and no line that this limit would cut.
+-- How much of an input is run as a script (docs/GUIDE.md, The console): at most 65,536 bytes, and no line that this limit would cut.
 use Prim.Native.Nat.{ℕ, zero, suc, _+_}
 use mathlib.Core.Path.{_≡_}
 use mathlib.Core.Bool.{cond}

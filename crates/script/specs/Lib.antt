@@ -1,4 +1,4 @@
--- What the contracts and claims of crate script cite (the console: docs/GUIDE.md).
+-- What the contracts and claims of crate script cite (docs/GUIDE.md, The console).
 pub mod Words
 pub mod Numbers
 pub mod Calls

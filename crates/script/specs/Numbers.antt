@@ -1,4 +1,4 @@
--- The numbers of a script (the console: docs/GUIDE.md): decimal, a minus sign before a negative one, and none that the call's type can't hold.
+-- The numbers of a script (docs/GUIDE.md, The console): decimal, a minus sign before a negative one, and none that the call's type can't hold.
 use Prim.Native.Nat.{ℕ, _+_, _-_, _*_}
 use mathlib.Core.Path.{_≡_}
 use mathlib.Core.Bool.{Bool, false, cond, not, _&&_}

@@ -1,4 +1,4 @@
--- The lines and words of a script (the console: docs/GUIDE.md): one call a line, words separated by single spaces. Text is a list of ASCII codes.
+-- The lines and words of a script (docs/GUIDE.md, The console): one call a line, words separated by single spaces. Text is a list of ASCII codes.
 use Prim.Native.Nat.{ℕ, _+_}
 use mathlib.Core.Path.{_≡_}
 use mathlib.Core.Bool.{Bool, true, false, cond, _&&_}

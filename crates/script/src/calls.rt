@@ -1,4 +1,4 @@
-// The calls by their names and the words after them (the console: docs/GUIDE.md). `end` is always the end of a word of the line.
+// The calls by their names and the words after them (docs/GUIDE.md, The console). `end` is always the end of a word of the line.
 use crate::Call;
 use crate::Command;
 use crate::Decimal;

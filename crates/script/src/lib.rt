@@ -1,4 +1,4 @@
-// The language of the console's scripts (the console: docs/GUIDE.md): lines, words, decimal numbers and calls.
+// The language of the console's scripts (docs/GUIDE.md, The console): lines, words, decimal numbers and calls.
 mod calls;
 mod lists;
 mod words;
@@ -64,7 +64,7 @@ pub fn line_end(text: &[u8], at: usize) -> usize
     next(text, at, b'\n')
 }
 
-// A word's value, if it is a decimal number of at most so much.
+// A word's value, if it is a decimal number of at most `most`.
 pub(crate) fn number(word: &[u8], most: u64) -> Decimal
     ensures { λ r. ⌜ r ≡ numberOf most (now (word .entry)) ⌝ }
 {
@@ -113,7 +113,7 @@ pub(crate) fn mean(word: &[u8]) -> Hundredths
     Hundredths::Mean(n as i16)
 }
 
-// The negative of a number.
+// By way of n - 1, since 32,768 itself has no place in 16 bits.
 fn negative(n: u64) -> i16
     requires { ⌜ n ≤ 32768 ⌝ }
     ensures { λ r. ⌜ r ≡ negℤ (pos n) ⌝ }

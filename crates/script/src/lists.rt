@@ -1,4 +1,4 @@
-// The weights and the means at the end of a line (the console: docs/GUIDE.md): judged, and stored in a lent slice.
+// The weights and the means at the end of a line (docs/GUIDE.md, The console): judged, and stored in a lent slice.
 use crate::Decimal;
 use crate::Hundredths;
 use crate::mean;
@@ -10,7 +10,7 @@ ghost use Rattle.script.specs.Words.{wordsLeft, every};
 ghost use Rattle.script.specs.Numbers.{isNumber, value, isMean, hundredths, leading, Listed, most32};
 
 // The largest weight of 32 bits.
-const MOST: u64 = 4_294_967_295;
+const MOST_32: u64 = 4_294_967_295;
 
 // Each word from the end of a word on is a weight.
 pub(crate) fn all_weights(line: &[u8], end: usize) -> bool
@@ -19,7 +19,7 @@ pub(crate) fn all_weights(line: &[u8], end: usize) -> bool
     let mut at = end;
     while at < line.len() {
         let end = next(line, at + 1, b' ');
-        let Decimal::Number(_) = number(&line[at + 1..end], MOST) else {
+        let Decimal::Number(_) = number(&line[at + 1..end], MOST_32) else {
             return false;
         };
         at = end;
@@ -50,7 +50,7 @@ pub(crate) fn weights_from(line: &[u8], end: usize, out: &mut [u32]) -> usize
     let mut i = 0;
     while at < line.len() {
         let end = next(line, at + 1, b' ');
-        let Decimal::Number(x) = number(&line[at + 1..end], MOST) else {
+        let Decimal::Number(x) = number(&line[at + 1..end], MOST_32) else {
             return i;
         };
         if i < out.len() {

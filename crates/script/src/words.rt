@@ -1,4 +1,4 @@
-// Lines, words between spaces, and whether two are the same (the console: docs/GUIDE.md).
+// Lines, words between spaces, and whether two are the same (docs/GUIDE.md, The console).
 ghost use mathlib.Core.Path.{_≡_};
 ghost use Rattle.script.specs.Words.{next, wordsLeft, same};
 ghost use Rattle.script.specs.Input.{afterFeed};
@@ -19,7 +19,6 @@ pub(crate) fn next(text: &[u8], at: usize, b: u8) -> usize
     i
 }
 
-// Two texts are the same.
 pub(crate) fn same(a: &[u8], b: &[u8]) -> bool
     ensures { λ r. ⌜ r ≡ same (now (a .entry)) (now (b .entry)) ⌝ }
 {

@@ -8,13 +8,14 @@ use native.Mathlib.Omega.{arith}
 use borrow.Author.Needs.{zero≤}
 use lib.ListN.{length, replicate, length-replicate}
 use lib.Seq.{sets}
+use Rattle.layout.specs.Accounts.{textMost}
 use Rattle.script.specs.Input.{scriptMost}
 use Rattle.session.specs.Lines.{Session, session}
-use Rattle.session.specs.Transcript.{transcript, sessionAfter, longest, passed, offsetAfter, RunMet}
+use Rattle.session.specs.Transcript.{transcript, sessionAfter, passed, offsetAfter, RunMet}
 use Rattle.session.specs.Script.{OneRun, Runs, fresh, EveryScriptRuns}
 use Rattle.session.proofs.Joined.{run-passes, run-goes-on}
 
-module _ (text lent : List ℕ) (few : length text ≤ scriptMost) (holds : longest ≤ length lent) where
+module _ (text lent : List ℕ) (few : length text ≤ scriptMost) (holds : textMost ≤ length lent) where
   -- a run from an offset on, by definition
   abbrev one : (at done : ℕ) (s : Session) → (r : OneRun) × RunMet text at done s lent (r .ran) (r .then) (r .written) text
   one at done s =
@@ -52,4 +53,4 @@ module _ (text lent : List ℕ) (few : length text ≤ scriptMost) (holds : long
 
 pub every-script-runs : EveryScriptRuns
 every-script-runs text few =
-    runs-on text (replicate longest 0) few (omega (arith, length-replicate {A = ℕ} longest 0)) (length text) 0 0 fresh (omega arith) zero≤
+    runs-on text (replicate textMost 0) few (omega (arith, length-replicate {A = ℕ} textMost 0)) (length text) 0 0 fresh (omega arith) zero≤

@@ -11,13 +11,14 @@ use lib.ListN.{length, getD, take, drop, length-append, length-drop, drop-of-len
 use lib.Seq.{length-take-le}
 use Rattle.account.specs.Account.{Account}
 use Rattle.layout.proofs.Laid.{start-within, start-is}
+use Rattle.layout.specs.Accounts.{textMost}
 use Rattle.script.specs.Words.{lineEnd}
 use Rattle.script.specs.Numbers.{most64}
 use Rattle.script.specs.Input.{scriptMost, scriptOf}
 use Rattle.script.proofs.Input.{enough-read}
 use Rattle.script.specs.Calls.{commandOf}
 use Rattle.session.specs.Lines.{Session, session, says, nextSession}
-use Rattle.session.specs.Transcript.{lines, transcript, sessionAfter, longest, oneMore, runnable, passed, offsetAfter, RunMet}
+use Rattle.session.specs.Transcript.{lines, transcript, sessionAfter, oneMore, runnable, passed, offsetAfter, RunMet}
 use Rattle.session.specs.Script.{OneRun, Runs, printed, scriptText, fresh, RunsJoin, ConsolePrints}
 use Rattle.session.specs.declared.Ran.{Ran}
 use Rattle.session.proofs.Short.{says-short}
@@ -99,10 +100,10 @@ module _ (text : List ℕ) (at done : ℕ) (s : Session) (out : List ℕ) (ran :
   run-passes = omega (arith, met .lines-done, met .next-is, offset-least (passed text at done s out) at)
 
   -- a run goes on where a line is left and the slice can hold an answer
-  pub run-goes-on : at < length text → longest ≤ length out → done < most64 → at < ran .at
+  pub run-goes-on : at < length text → textMost ≤ length out → done < most64 → at < ran .at
   run-goes-on more holds few =
       let end : ℕ = lineEnd text at in
-      let goes : oneMore done (length out) ≡ true = simp (lt-ltb done most64 few, le-leb longest (length out) holds) in
+      let goes : oneMore done (length out) ≡ true = simp (lt-ltb done most64 few, le-leb textMost (length out) holds) in
       let first = ap (λ (ls : List (List ℕ)). runnable ls done s (length out)) (lines-next text at end more refl) ∙
       runnable-more done s (length out) (take (end - at) (drop at text)) (lines (drop (end + 1) text)) goes in
       omega (arith, ap length first, met .next-is, offset-least (passed text at done s out) at)

@@ -33,7 +33,7 @@ refused-met o b r answers refused places none =
     record {
       answers = answers;
       places = places;
-      returns = none ∙ sym (simp (ne-eqb (openedNumber o b) 0 refused));
+      gives = none ∙ sym (simp (ne-eqb (openedNumber o b) 0 refused));
       leaves = sym (simp (ne-eqb (openedNumber o b) 0 refused));
     }
 
@@ -72,7 +72,7 @@ module _ (ws : List ℕ) (b : Account) (n m c : ℕ) (marks counts : List ℕ) (
       record {
         answers = zero ∙ sym is;
         places = place;
-        returns = days ∙ sym nIs ∙ sym (simp is);
+        gives = days ∙ sym nIs ∙ sym (simp is);
         leaves =
             ap (λ (w : List ℕ). account w (marks ++ drop m (b .marks)) (counts ++ drop c (b .counts))) (over ∙ ap (λ (k : ℕ). ws ++ drop k (b .weights)) (sym nIs)) ∙
             rw (← long-marks, ← long-counts) (ap (λ (a : Account). laid a b) clear) ∙
@@ -122,7 +122,7 @@ same-offer profile weekday means x y e b r then met =
         (record { number = 0; place = 0; memory = weightsOf profile weekday means }))))
 
     by : (u p w s : Bool) → OpenedMet (rows u p w s x) b r then → OpenedMet (rows u p w s y) b r then
-    by true p w s m = record { answers = m .answers; places = m .places; returns = m .returns; leaves = m .leaves }
+    by true p w s m = record { answers = m .answers; places = m .places; gives = m .gives; leaves = m .leaves }
     by false p w s m = m
 
 -- weights that are given have no place

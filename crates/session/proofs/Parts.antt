@@ -24,13 +24,13 @@ take-least k r l e = by (decLe k (length l))
         let is : r ≡ length l = omega arith in
         ap (λ (n : ℕ). take n l) is ∙ take-length l ∙ sym (take-all k l (omega arith))
 
-pub over-take : (n : ℕ) (l : List ℕ) → over (take n l) l ≡ l
+over-take : (n : ℕ) (l : List ℕ) → over (take n l) l ≡ l
 over-take zero l = refl
 over-take (suc n) [] = refl
 over-take (suc n) (x ∷ l) = ap (λ (t : List ℕ). x ∷ t) (over-take n l)
 
 -- marks and counts that came back from a call on the first of them
-pub laid-back : (b : Account) (n m c : ℕ) (marks counts : List ℕ) → length marks ≡ m → length counts ≡ c →
+laid-back : (b : Account) (n m c : ℕ) (marks counts : List ℕ) → length marks ≡ m → length counts ≡ c →
     account (b .weights) (marks ++ drop m (b .marks)) (counts ++ drop c (b .counts)) ≡ laid (account (take n (b .weights)) marks counts) b
 laid-back b n m c marks counts e f = rw (over-take n (b .weights), e, f)
 

@@ -1,20 +1,19 @@
--- Numbers printed and read again (Case file, the console): the digits of a number have its value, and are the fewest. Assumes nothing.
-use Prim.Native.Nat.{ℕ, zero, suc, _+_, _-_, _*_, _/_, _%_, _^_, _≤_, _<_}
+-- Numbers printed and read again (Case file, the console): the digits of a number have its value. Assumes nothing.
+use Prim.Native.Nat.{ℕ, zero, suc, _+_, _-_, _*_, _/_, _%_, _^_, _<_}
 use mathlib.Core.Path.{_≡_, refl, _∙_}
-use mathlib.Core.Bool.{Bool, true, false, cond, _&&_}
+use mathlib.Core.Bool.{Bool, true, false, _&&_}
 use mathlib.Core.List.{List, [], _∷_, _++_}
-use native.Mathlib.Nat.{div-lt-iff-lt-mul, le-div-iff-mul-le, pow-suc}
-use native.Mathlib.Numerals.{sub-one}
+use native.Mathlib.Nat.{div-lt-iff-lt-mul, pow-suc}
 use native.Mathlib.Omega.{arith}
-use borrow.Author.Tests.{lt-ltb, le-leb, ltb-true, ltb-false, ne-eqb}
-use lib.Dec.{lit<, ltb, eqb}
+use borrow.Author.Tests.{lt-ltb, le-leb, ne-eqb}
+use lib.Dec.{lit<, eqb}
 use lib.ListN.{length}
-use Rattle.io.specs.Digits.{digits, Fewest, glyph}
+use Rattle.io.specs.Digits.{digits, glyph}
 use Rattle.layout.specs.Text.{digitCount, decimal}
-use Rattle.layout.proofs.Decimal.{length-digits}
+use Rattle.layout.proofs.Decimal.{length-digits, counted}
 use Rattle.script.specs.Words.{every}
 use Rattle.script.specs.Numbers.{isDigit, valueAfter, value, most64}
-use Rattle.session.specs.Numbers.{ReadBack, FewestDigits}
+use Rattle.session.specs.Numbers.{ReadBack}
 
 value-joined : (v : ℕ) (xs ys : List ℕ) → valueAfter v (xs ++ ys) ≡ valueAfter (valueAfter v xs) ys
 unfolding valueAfter
@@ -50,35 +49,9 @@ unfolding every
 digits-digits zero n = refl
 digits-digits (suc k) n = every-joined isDigit (digits 10 k (n / 10)) (glyph (n % 10)) (digits-digits k (n / 10)) (digit (n % 10) (omega arith))
 
--- as many digits as are counted hold the number, and fewer do not
-places-fewest : (more n : ℕ) → n < 10 ^ suc more → Fewest 10 1 n (digitCount more n)
-unfolding digitCount
-places-fewest zero n l = (omega arith, l, λ h. absurd (omega arith))
-places-fewest (suc more) n l =
-    let high : n < 10 ^ suc more * 10 = rw pow-suc at l in
-    go (ltb n 10) refl (digitCount more (n / 10)) (places-fewest more (n / 10) (div-lt-iff-lt-mul (lit< tt) .1 high))
-  where
-    low : (k : ℕ) → 10 ≤ n → Fewest 10 1 (n / 10) k → 10 ^ k ≤ n
-    low zero ten f = omega arith
-    low (suc zero) ten f = ten
-    low (suc (suc k)) ten f = rw pow-suc (le-div-iff-mul-le (lit< tt) .0 (rw sub-one at (f .2 (omega arith))))
-
-    go : (b : Bool) → ltb n 10 ≡ b → (k : ℕ) → Fewest 10 1 (n / 10) k → Fewest 10 1 n (cond b 1 (suc k))
-    go true e k f = (omega arith, ltb-true n 10 e, λ h. absurd (omega arith))
-    go false e k f = (omega arith, rw pow-suc (div-lt-iff-lt-mul (lit< tt) .0 (f .1)), λ h. rw sub-one (low k (ltb-false n 10 e) f))
-
-counted : (n : ℕ) → n ≤ most64 → Fewest 10 1 n (digitCount 20 n)
-counted n l = places-fewest 20 n (omega (arith, l))
-
 pub read-back : ReadBack
 unfolding decimal
 read-back n l =
-    let is : value (decimal n) ≡ n = digits-value (digitCount 20 n) n (counted n l .1) in
-    let some : eqb (length (decimal n)) 0 ≡ false = ne-eqb (length (decimal n)) 0 (λ z. omega (arith, z, length-digits (digitCount 20 n) n, counted n l .0)) in
+    let is : value (decimal n) ≡ n = digits-value (digitCount 20 n) n (counted n (omega arith) .1) in
+    let some : eqb (length (decimal n)) 0 ≡ false = ne-eqb (length (decimal n)) 0 (λ z. omega (arith, z, length-digits (digitCount 20 n) n, counted n (omega arith) .0)) in
     rw (some, digits-digits (digitCount 20 n) n, is, le-leb n most64 l) refl
-
-pub fewest-digits : FewestDigits
-unfolding decimal
-fewest-digits n l =
-    let (some, holds, fewest) = counted n l in
-    rw (length-digits (digitCount 20 n) n) (omega (arith, some), holds, λ more. fewest (omega arith))

@@ -15,12 +15,13 @@ use Rattle.account.specs.Account.{Account}
 use Rattle.account.proofs.Below.{both}
 use Rattle.layout.specs.Text.{LaidOut}
 use Rattle.layout.proofs.Laid.{then-laid}
+use Rattle.layout.specs.Accounts.{textMost}
 use Rattle.script.proofs.Split.{upTo-short}
 use Rattle.script.specs.Words.{upTo, lineEnd}
 use Rattle.script.specs.Numbers.{most64}
 use Rattle.script.specs.Calls.{commandOf}
 use Rattle.session.specs.Lines.{Session, session, says, nextSession, StepMet}
-use Rattle.session.specs.Transcript.{begun, lines, transcript, sessionAfter, longest, oneMore, runnable, passed, offsetAfter, GatheredMet, RunMet}
+use Rattle.session.specs.Transcript.{begun, lines, transcript, sessionAfter, oneMore, runnable, passed, offsetAfter, GatheredMet, RunMet}
 use Rattle.session.specs.declared.Said.{Said}
 use Rattle.session.specs.declared.Ran.{Ran}
 use Rattle.session.proofs.Short.{says-short}
@@ -125,7 +126,7 @@ module _ (done : ℕ) (s : Session) (room : ℕ) where
   runnable-none (line ∷ rest) stops = simp stops
 
   -- no line is left, or none is run
-  pub stopped : (text : List ℕ) (at : ℕ) → (ltb at (length text) && oneMore done room) ≡ false → runnable (lines (drop at text)) done s room ≡ []
+  stopped : (text : List ℕ) (at : ℕ) → (ltb at (length text) && oneMore done room) ≡ false → runnable (lines (drop at text)) done s room ≡ []
   unfolding runnable lines
   stopped text at stops = by (ltb at (length text)) refl stops
     where
@@ -135,18 +136,18 @@ module _ (done : ℕ) (s : Session) (room : ℕ) where
 
 -- what the test of a run says, its room counted by another name
 module _ (r : Bool) (at end done have want n : ℕ) (is : r ≡ (ltb at end && oneMore done (have - n))) (same : have ≡ want) where
-  pub goes : r ≡ true → (at < end) × (done < most64) × (longest ≤ want - n) × (oneMore done (want - n) ≡ true)
+  pub goes : r ≡ true → (at < end) × (done < most64) × (textMost ≤ want - n) × (oneMore done (want - n) ≡ true)
   goes taken =
       let b = both (ltb at end) (oneMore done (have - n)) (sym is ∙ taken) in
       let one : oneMore done (want - n) ≡ true = ap (λ (k : ℕ). oneMore done (k - n)) (sym same) ∙ b .1 in
-      let c = both (ltb done most64) (leb longest (want - n)) one in
-      (ltb-true at end (b .0), ltb-true done most64 (c .0), leb-true longest (want - n) (c .1), one)
+      let c = both (ltb done most64) (leb textMost (want - n)) one in
+      (ltb-true at end (b .0), ltb-true done most64 (c .0), leb-true textMost (want - n) (c .1), one)
 
   pub stops : r ≡ false → (ltb at end && oneMore done (want - n)) ≡ false
   stops left = ap (λ (k : ℕ). ltb at end && oneMore done (k - n)) (sym same) ∙ sym is ∙ left
 
-pub room-left : (done room : ℕ) → oneMore done room ≡ true → longest ≤ room
-room-left done room goes = leb-true longest room (both (ltb done most64) (leb longest room) goes .1)
+pub room-left : (done room : ℕ) → oneMore done room ≡ true → textMost ≤ room
+room-left done room goes = leb-true textMost room (both (ltb done most64) (leb textMost room) goes .1)
 
 -- a text put at the start of the part of a slice from an offset on is put from that offset on
 pub gathered : (out text : List ℕ) (filled : ℕ) → filled + length text ≤ length out →
@@ -167,7 +168,7 @@ gathered out text filled room =
 
 -- a line's answer, put after those before it
 pub gathered-met : (line : List ℕ) (l : ℕ) (s : Session) (out : List ℕ) (filled : ℕ) (said : Said) (then : Account) (part : List ℕ) →
-    filled + longest ≤ length out → StepMet line l s (midOf filled (length out - filled) out) said then part →
+    filled + textMost ≤ length out → StepMet line l s (midOf filled (length out - filled) out) said then part →
     GatheredMet line l s out filled said then (putMid filled (length out - filled) out part)
 gathered-met line l s out filled said then part room met =
     let k : ℕ = length out - filled in

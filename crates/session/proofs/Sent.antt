@@ -9,12 +9,13 @@ use lib.Dec.{eqb}
 use lib.ListN.{length, take, drop, length-append, length-take, length-drop, drop-of-length-le}
 use lib.Seq.{take-append-seam, drop-append-seam, drop-drop}
 use Rattle.account.specs.Account.{Account}
+use Rattle.layout.specs.Accounts.{textMost}
 use Rattle.script.specs.Calls.{commandOf}
 use Rattle.script.specs.Numbers.{most64}
 use Rattle.script.specs.Input.{scriptMost, wholeLines, scriptOf}
 use Rattle.script.proofs.Input.{enough-read}
 use Rattle.session.specs.Lines.{Session, session, says, nextSession}
-use Rattle.session.specs.Transcript.{begun, lines, transcript, longest, RunMet}
+use Rattle.session.specs.Transcript.{begun, lines, transcript, RunMet}
 use Rattle.session.specs.Script.{scriptText, fresh, Continues}
 use Rattle.session.specs.declared.Ran.{Ran}
 use Rattle.session.proofs.Short.{says-short}
@@ -90,7 +91,7 @@ lines-few (x ∷ s) = by (eqb x 10) (lines-few s)
     by true h = omega arith
     by false h = omega (arith, begun-few x (lines s))
 
-transcript-short : (ls : List (List ℕ)) (done : ℕ) (s : Session) → length (transcript ls done s) ≤ length ls * longest
+transcript-short : (ls : List (List ℕ)) (done : ℕ) (s : Session) → length (transcript ls done s) ≤ length ls * textMost
 unfolding transcript
 transcript-short [] done s = zero≤
 transcript-short (line ∷ rest) done s =
@@ -98,7 +99,7 @@ transcript-short (line ∷ rest) done s =
     let then : Session = nextSession (commandOf line) line s in
     omega (arith, says-short (commandOf line) line (done + 1) s, transcript-short rest (done + 1) then, length-append told (transcript rest (done + 1) then))
 
-text-short : (input : List ℕ) → length (scriptText (scriptOf input)) ≤ (scriptMost + 1) * longest
+text-short : (input : List ℕ) → length (scriptText (scriptOf input)) ≤ (scriptMost + 1) * textMost
 text-short input =
     let start : List ℕ = take (scriptMost + 1) input in
     omega (

@@ -1,4 +1,4 @@
--- No answer of a line is longer than `longest`. Assumes nothing.
+-- No answer of a line is longer than `textMost`. Assumes nothing.
 use Prim.Native.Nat.{ℕ, _≤_}
 use mathlib.Core.Bool.{Bool, true, false, cond}
 use mathlib.Core.List.{List}
@@ -9,21 +9,21 @@ use lib.ListN.{length, length-append}
 use Rattle.layout.specs.Text.{doneText, refusalText}
 use Rattle.layout.proofs.Decimal.{decimal-most}
 use Rattle.layout.proofs.Fits.{refusal-most, account-most}
+use Rattle.layout.specs.Accounts.{textMost}
 use Rattle.script.specs.declared.Command.{Command}
 use Rattle.script.specs.declared.Command.the-variants.{Blank, Unknown, Weights, Days, Change, Statement}
 use Rattle.session.specs.Buffers.{held}
 use Rattle.session.specs.Calls.{callNumber, weightsOffer, daysOffer, openedNumber}
 use Rattle.session.specs.Lines.{Session, says, answerText}
-use Rattle.session.specs.Transcript.{longest}
 
-answer-short : (number place : ℕ) → length (answerText number place) ≤ longest
+answer-short : (number place : ℕ) → length (answerText number place) ≤ textMost
 answer-short number place = by (eqb number 0)
   where
-    by : (done : Bool) → length (cond done doneText (refusalText number place)) ≤ longest
+    by : (done : Bool) → length (cond done doneText (refusalText number place)) ≤ textMost
     by true = omega arith
     by false = refusal-most number place
 
-pub says-short : (k : Command) (line : List ℕ) (l : ℕ) (s : Session) → length (says k line l s) ≤ longest
+pub says-short : (k : Command) (line : List ℕ) (l : ℕ) (s : Session) → length (says k line l s) ≤ textMost
 says-short Blank line l s = zero≤
 says-short Unknown line l s = simp length-append (omega (arith, decimal-most l))
 says-short Weights line l s = answer-short (openedNumber (weightsOffer line) (s .buffers)) (weightsOffer line .place)

@@ -31,5 +31,5 @@ module _ (o : Ruling) (s : Session) (opened : Opened) (then : Account) (met : Op
   pub opened-session : (days : ℕ) → days ≡ cond (eqb (opened .number) 0) (opened .days) (s .days) → session days then ≡ openedSession o s
   opened-session days is =
       ap₂ session
-      (is ∙ ap₂ (λ (number n : ℕ). cond (eqb number 0) n (s .days)) (met .answers) (met .returns))
+      (is ∙ ap₂ (λ (number n : ℕ). cond (eqb number 0) n (s .days)) (met .answers) (met .gives))
       (met .leaves)

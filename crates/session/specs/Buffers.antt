@@ -1,4 +1,4 @@
--- The buffers of a session (the console: docs/GUIDE.md): weights, marks and counts that can be longer than the account they hold.
+-- The buffers of a session (docs/GUIDE.md, The console): weights, marks and counts that can be longer than the account they hold.
 use Prim.Native.Nat.{ℕ, _+_}
 use mathlib.Core.List.{List, _++_}
 use lib.ListN.{length, take, drop}

@@ -1,4 +1,4 @@
--- One call of a script on a session's buffers (the console: docs/GUIDE.md): the number answered and what the buffers hold after it.
+-- One call of a script on a session's buffers (docs/GUIDE.md, The console): the number answered and what the buffers hold after it.
 use Prim.Native.Nat.{ℕ, _+_, _-_}
 use mathlib.Core.Path.{_≡_}
 use mathlib.Core.List.{List}
@@ -71,5 +71,5 @@ openedBuffers o b = ifDone (openedNumber o b) (laid (cleared (candidate (o .memo
 pub record OpenedMet (o : Ruling) (before : Account) (opened : Opened) (then : Account) : Type 0 where
   pub answers : opened .number ≡ openedNumber o before
   pub places : opened .place ≡ o .place
-  pub returns : opened .days ≡ openedDays o before
+  pub gives : opened .days ≡ openedDays o before
   pub leaves : then ≡ openedBuffers o before

@@ -1,4 +1,4 @@
--- What the contracts and claims of crate session cite (the console: docs/GUIDE.md).
+-- What the contracts and claims of crate session cite (docs/GUIDE.md, The console).
 pub mod Buffers
 pub mod Calls
 pub mod Lines

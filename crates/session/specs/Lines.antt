@@ -1,4 +1,4 @@
--- What a line of a script says and does (the console: docs/GUIDE.md): for each call one answer, `done`, or `refused NUMBER PLACE`, or the statement. Empty lines and lines
+-- What a line of a script says and does (docs/GUIDE.md, The console): for each call one answer, `done`, or `refused NUMBER PLACE`, or the statement. Empty lines and lines
 -- that begin with `#` print nothing; a line that is no call, or has a number that the call's type can't hold, prints `unknown LINE` and
 -- changes nothing.
 use Prim.Native.Nat.{ℕ}

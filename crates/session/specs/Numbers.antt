@@ -1,8 +1,6 @@
 -- Numbers as they are printed (Case file) and as the console reads them.
 use Prim.Native.Nat.{ℕ, _≤_}
 use mathlib.Core.Path.{_≡_}
-use lib.ListN.{length}
-use Rattle.io.specs.Digits.{Fewest}
 use Rattle.layout.specs.Text.{decimal}
 use Rattle.script.specs.Numbers.{most64, numberOf}
 use Rattle.script.specs.declared.Decimal.the-variants.{Number}
@@ -10,7 +8,3 @@ use Rattle.script.specs.declared.Decimal.the-variants.{Number}
 -- what is printed for a number of 64 bits is read as that number (proofs/ReadBack, `read-back`)
 abbrev pub ReadBack : Type 0
 ReadBack = (n : ℕ) → n ≤ most64 → numberOf most64 (decimal n) ≡ Number n
-
--- and has the fewest digits that hold the number, at least one, so no leading zero but in 0 itself (`fewest-digits`)
-abbrev pub FewestDigits : Type 0
-FewestDigits = (n : ℕ) → n ≤ most64 → Fewest 10 1 n (length (decimal n))

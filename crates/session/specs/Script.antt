@@ -1,4 +1,4 @@
--- What a whole script prints (the console: docs/GUIDE.md): all its lines, whatever number of runs it takes.
+-- What a whole script prints (docs/GUIDE.md, The console): all its lines, whatever number of runs it takes.
 use Prim.Native.Nat.{ℕ, _+_, _≤_}
 use mathlib.Core.Path.{_≡_}
 use mathlib.Core.List.{List, [], _∷_, _++_}

@@ -1,4 +1,4 @@
--- What lines of a script print, and a run of them (the console: docs/GUIDE.md): one call a line, for each call one answer, lines counted from 1.
+-- What lines of a script print, and a run of them (docs/GUIDE.md, The console): one call a line, for each call one answer, lines counted from 1.
 use Prim.Native.Nat.{ℕ, _+_, _-_, _≤_}
 use mathlib.Core.Path.{_≡_}
 use mathlib.Core.Bool.{Bool, cond, _&&_}
@@ -34,10 +34,6 @@ unfoldable pub sessionAfter : List (List ℕ) → Session → Session
 sessionAfter [] s = s
 sessionAfter (line ∷ rest) s = sessionAfter rest (nextSession (commandOf line) line s)
 
--- no answer is longer than this
-abbrev pub longest : ℕ
-longest = textMost
-
 -- a line's answer laid out in a lent slice from an offset on, all of it
 pub record GatheredMet (line : List ℕ) (l : ℕ) (before : Session) (out : List ℕ) (filled : ℕ) (said : Said) (then : Account) (written : List ℕ) : Type 0 where
   pub prints : LaidOut filled (says (commandOf line) line l before) out (filled + said .length) written
@@ -46,7 +42,7 @@ pub record GatheredMet (line : List ℕ) (l : ℕ) (before : Session) (out : Lis
 
 -- one more line is run while its number has 64 bits and the room left can hold any answer
 abbrev pub oneMore : ℕ → ℕ → Bool
-oneMore done room = ltb done most64 && leb longest room
+oneMore done room = ltb done most64 && leb textMost room
 
 -- those of the lines that are run, after so many lines and with so much room
 unfoldable pub runnable : List (List ℕ) → ℕ → Session → ℕ → List (List ℕ)

@@ -1,4 +1,4 @@
-// How much of a buffer an account of so many days takes (the console: docs/GUIDE.md).
+// How much of a buffer an account of so many days takes (docs/GUIDE.md, The console).
 ghost use mathlib.Core.Path.{_≡_};
 ghost use Prim.Native.Nat.{_+_, min};
 

@@ -1,11 +1,12 @@
-// One line of a script, its answer gathered after others in a lent slice (the console: docs/GUIDE.md).
+// One line of a script, its answer gathered after others in a lent slice (docs/GUIDE.md, The console).
 use crate::Said;
 use crate::step;
 ghost use Prim.Native.Nat.{_+_, _-_, _≤_};
 ghost use lib.ListN.{length, take, drop};
 ghost use Rattle.account.specs.Account.{account};
+ghost use Rattle.layout.specs.Accounts.{textMost};
 ghost use Rattle.session.specs.Lines.{session};
-ghost use Rattle.session.specs.Transcript.{GatheredMet, longest};
+ghost use Rattle.session.specs.Transcript.{GatheredMet};
 
 // The line from one offset to another, its answer put after the first bytes of out.
 pub(crate) fn gather(
@@ -20,7 +21,7 @@ pub(crate) fn gather(
     out: &mut [u8],
     filled: usize,
 ) -> Said
-    requires { ⌜ (at ≤ end) × (end ≤ length (now text)) × (filled + longest ≤ length (now out)) ⌝ }
+    requires { ⌜ (at ≤ end) × (end ≤ length (now text)) × (filled + textMost ≤ length (now out)) ⌝ }
     ensures { λ r. ⌜ GatheredMet (take (end - at) (drop at (now (text .entry)))) number (session days (account (now (weights .entry)) (now (marks .entry)) (now (counts .entry)))) (now (out .entry)) filled r (account (now (weights .exit)) (now (marks .exit)) (now (counts .exit))) (now (out .exit)) ⌝ }
 {
     step(

@@ -1,4 +1,4 @@
-// A session of the console (the console: docs/GUIDE.md): each line of a script, done on buffers that hold an account.
+// A session of the console (docs/GUIDE.md, The console): each line of a script, done on buffers that hold an account.
 mod buffers;
 mod gathered;
 mod open;
@@ -25,9 +25,6 @@ ghost use Rattle.session.specs.Calls.{CallMet, ChangeMet, OpenedMet, wei
 ghost use Rattle.session.specs.Lines.{answerText, session, StepMet};
 ghost use Rattle.session.specs.Transcript.{RunMet, oneMore};
 
-// No answer is longer.
-const LONGEST: usize = layout::TEXT_MOST;
-
 // What opening an account answers: 0 and its days, or the number of a refusal and its place.
 pub(crate) struct Opened {
     pub number: u8,
@@ -49,7 +46,8 @@ pub struct Ran {
     pub length: usize,
 }
 
-// The lines of a script from an offset on, after so many done: their answers at the start of out, as long as it can hold any one more.
+// Runs the lines of a script from an offset on, after `done` lines: their answers at the start of out. It stops where the room left might not
+// hold the next.
 pub fn run(
     text: &[u8],
     at: usize,
@@ -103,7 +101,7 @@ fn one_more(at: usize, end: usize, done: usize, room: usize) -> bool
     if usize::MAX <= done {
         return false;
     }
-    LONGEST <= room
+    layout::TEXT_MOST <= room
 }
 
 // One line of a script, with its number: its answer at the start of out.

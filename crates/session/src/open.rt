@@ -1,4 +1,4 @@
-// Opening an account over weights, and over the weights of means (the console: docs/GUIDE.md).
+// Opening an account over weights, and over the weights of means (docs/GUIDE.md, The console).
 use crate::Opened;
 use crate::buffers::boundaries;
 use account::number_of;

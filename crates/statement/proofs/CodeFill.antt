@@ -41,7 +41,7 @@ first-there a o h p is =
     omega arith
 
 pub reached-first : (a : Account) (o : Outputs) → Fillable a o → (p q : ℕ) → NextReading (a .marks) 0 p → NextReading (a .marks) (p + 1) q →
-    Reached a q o (record { start = p; value = getD (a .counts) p 0; parts = 0 })
+    Reached a q o (record { start = p; count = getD (a .counts) p 0; parts = 0 })
 reached-first a o h p q is after =
     let within = first-there a o h p is in
     let here = is .there (omega (arith, checked-fit a (h .checked))) in

@@ -61,9 +61,9 @@ room a p q c between inside =
     }
 
 -- the next part starts at the reading p, which has what its count says
-pub starts-at : (a : Account) (q : ℕ) (o : Outputs) (d : Progress) → Interval a q o d → d .value ≡ shown a .readings .count (d .start)
+pub starts-at : (a : Account) (q : ℕ) (o : Outputs) (d : Progress) → Interval a q o d → d .count ≡ shown a .readings .count (d .start)
 starts-at a q o d h =
-    h .so-far .value ∙ ap (has (a .weights) (shown a .readings)) (sym (h .so-far .start)) ∙ has-reading (a .weights) (shown a .readings) (d .start) (h .adjacent .at-p)
+    h .so-far .count ∙ ap (has (a .weights) (shown a .readings)) (sym (h .so-far .start)) ∙ has-reading (a .weights) (shown a .readings) (d .start) (h .adjacent .at-p)
 
 pub interval-summable : (a : Account) (q : ℕ) (o : Outputs) (d : Progress) → Interval a q o d → (k m : ℕ) → k ≤ m → m ≤ q → Summable (a .weights) k m
 interval-summable a q o d h k m low high =
@@ -71,7 +71,7 @@ interval-summable a q o d h k m low high =
 
 pub interval-start : (a : Account) (q : ℕ) (o : Outputs) (d : Progress) (z zk : ℕ) → Interval a q o d → z ≡ weightSum (a .weights) (d .start) q →
     zk ≡ weightSum (a .weights) (d .start) (d .start + 1) →
-    Within a (d .start) q (d .value) (getD (a .counts) q 0 - d .value) z (d .start + 1) zk o d
+    Within a (d .start) q (d .count) (getD (a .counts) q 0 - d .count) z (d .start + 1) zk o d
 interval-start a q o d z zk h sum first =
     record {
       checked = h .checked;
@@ -109,18 +109,18 @@ module _ {a : Account} {p q low e z k zk : ℕ} {o : Outputs} {d : Progress} (h 
       }
 
   -- what a boundary before q has
-  value-is : k < q → (v : ℕ) → v ≡ low + shareOf e zk z → v ≡ has (a .weights) (shown a .readings) k
+  count-is : k < q → (v : ℕ) → v ≡ low + shareOf e zk z → v ≡ has (a .weights) (shown a .readings) k
   unfolding between
-  value-is less v is =
+  count-is less v is =
       is ∙ rw (h .energy, h .starts, h .sum, h .share) (sym (has-between (a .weights) (shown a .readings) valid p q (h .adjacent) (h .inside) k (omega (arith, h .after)) (h .upto)))
 
   -- the next part starts at p or later
   started : IsLast (marked (shown a)) k (last (marked (shown a)) k)
   started = last-found (marked (shown a)) k p (h .after) (rw (h .adjacent .at-p))
 
-  rises : d .value ≤ has (a .weights) (shown a .readings) k
+  rises : d .count ≤ has (a .weights) (shown a .readings) k
   rises =
-      rw (h .written .value)
+      rw (h .written .count)
       (has-mono (a .weights) (shown a .readings) valid p q (h .adjacent) (h .inside) (last (marked (shown a)) k) k
       (last-most (marked (shown a)) started (h .after) (rw (h .adjacent .at-p))) (omega (arith, started .below)) (h .upto))
 
@@ -158,13 +158,13 @@ module _ {a : Account} {p q low e z k zk : ℕ} {o : Outputs} {d : Progress} (h 
   within-bare less bare same-o same-d = next less _ _ (written-same (written-none (a .weights) (shown a) k o d (h .written) (rw bare)) same-o same-d)
 
   pub within-addable : k < q → (v : ℕ) → v ≡ low + shareOf e zk z → Addable o d k v
-  within-addable less v is = addable v (value-is less v is)
+  within-addable less v is = addable v (count-is less v is)
 
   pub within-cut : {o′ : Outputs} {d′ : Progress} → k < q → (getD (a .marks) k 0 ≡ 0 → ⊥) → (v : ℕ) → v ≡ low + shareOf e zk z →
       o′ ≡ withPart o d k v → d′ ≡ nextPart d k v → Within a p q low e z (k + 1) (zk + getD (a .weights) k 0) o′ d′
   within-cut less some v is same-o same-d =
       let here = mark-counts (getD (a .marks) k 0) (mark-most a (checked-sound a (h .checked)) k (omega (arith, h .inside))) some in
-      next less _ _ (written-same (added v (value-is less v is) here) same-o same-d)
+      next less _ _ (written-same (added v (count-is less v is) here) same-o same-d)
 
 -- the end of the interval, the reading q
 module _ {a : Account} {p q low e z k zk : ℕ} {o : Outputs} {d : Progress} (h : Within a p q low e z k zk o d) (end : q ≤ k) where
@@ -173,12 +173,12 @@ module _ {a : Account} {p q low e z k zk : ℕ} {o : Outputs} {d : Progress} (h 
       let there : k ≡ q = omega (arith, h .upto) in
       subst (λ (m : ℕ). Within a p q low e z m zk o d) there h
 
-  value-end : getD (a .counts) q 0 ≡ has (a .weights) (shown a .readings) q
-  value-end = sym (has-reading (a .weights) (shown a .readings) q (h .adjacent .at-q))
+  count-end : getD (a .counts) q 0 ≡ has (a .weights) (shown a .readings) q
+  count-end = sym (has-reading (a .weights) (shown a .readings) q (h .adjacent .at-q))
 
   pub within-end-addable : Addable o d q (getD (a .counts) q 0)
-  within-end-addable = addable at-end (getD (a .counts) q 0) value-end
+  within-end-addable = addable at-end (getD (a .counts) q 0) count-end
 
   pub within-end : {o′ : Outputs} {d′ : Progress} → o′ ≡ withPart o d q (getD (a .counts) q 0) → d′ ≡ nextPart d q (getD (a .counts) q 0) →
       Written (a .weights) (shown a) (q + 1) o′ d′
-  within-end same-o same-d = written-same (added at-end (getD (a .counts) q 0) value-end (rw (h .adjacent .at-q))) same-o same-d
+  within-end same-o same-d = written-same (added at-end (getD (a .counts) q 0) count-end (rw (h .adjacent .at-q))) same-o same-d

@@ -58,7 +58,7 @@ module _ (w : List ℕ) (s : Stands) where
   unfolding last
   written-none m o d h bare =
       let same : partsBelow w s (suc m) ≡ partsBelow w s m = below-none w s m (rw bare) in
-      rw add-one (record { holds = rw same (h .holds); parts = rw same (h .parts); start = rw bare (h .start); value = rw bare (h .value) })
+      rw add-one (record { holds = rw same (h .holds); parts = rw same (h .parts); start = rw bare (h .start); count = rw bare (h .count) })
 
   pub written-part : (m : ℕ) (o : Outputs) (d : Progress) (v : ℕ) → Written w s m o d → Ends w s m → m ≤ length w →
       v ≡ has w (s .readings) m → Written w s (m + 1) (withPart o d m v) (nextPart d m v)
@@ -74,11 +74,11 @@ module _ (w : List ℕ) (s : Stands) where
       (record {
         holds =
             ap {B = Outputs} (λ (x : Outputs). withPart x d m v) (h .holds) ∙
-            outputs-same (store (λ p. p .from) (d .start) (h .start)) (store (λ p. p .to) m refl) (store (λ p. p .wh) (v - d .value) (ap₂ _-_ is (h .value))) ∙
+            outputs-same (store (λ p. p .from) (d .start) (h .start)) (store (λ p. p .to) m refl) (store (λ p. p .wh) (v - d .count) (ap₂ _-_ is (h .count))) ∙
             ap (written (length w)) (sym next);
         parts = rw (next, length-append) (omega arith);
         start = rw here;
-        value = rw (here, is);
+        count = rw (here, is);
       })
 
   -- the outputs keep the length n
@@ -88,7 +88,7 @@ module _ (w : List ℕ) (s : Stands) where
       rw (h .holds) (record { from = keeps (λ p. p .from); to = keeps (λ p. p .to); wh = keeps (λ p. p .wh) })
 
   pub written-addable : (m : ℕ) (o : Outputs) (d : Progress) (v : ℕ) → Written w s m o d → last (marked s) m < m → m ≤ length w → m < 65_536 →
-      d .value ≤ v → Addable o d m v
+      d .count ≤ v → Addable o d m v
   written-addable m o d v h below within small rises =
       let fits : d .parts < length w = omega (arith, fewer m (omega arith), h .parts) in
       let keeps = written-long m o d h (omega arith) (omega arith) in
@@ -103,7 +103,7 @@ module _ (w : List ℕ) (s : Stands) where
 
   -- at the first reading nothing is written yet
   pub written-first : (p : ℕ) (o : Outputs) → firstReading (length w) (s .readings) ≡ p → s .readings .at p ≡ true → o ≡ written (length w) [] →
-      Written w s (p + 1) o (record { start = p; value = s .readings .count p; parts = 0 })
+      Written w s (p + 1) o (record { start = p; count = s .readings .count p; parts = 0 })
   unfolding last
   written-first p o is here clear =
       let none : partsBelow w s (suc p) ≡ [] = none-until w s (suc p) (omega arith) in
@@ -112,7 +112,7 @@ module _ (w : List ℕ) (s : Stands) where
         holds = rw none clear;
         parts = rw none;
         start = rw here;
-        value = rw here (sym (has-reading w (s .readings) p here));
+        count = rw here (sym (has-reading w (s .readings) p here));
       })
 
   -- at the last reading all is written

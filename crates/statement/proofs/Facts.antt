@@ -1,6 +1,6 @@
--- The rule's own facts (Account and its calls, "Statement"; demand 3), for any n, any good weights and any readings that never fall:
+-- The rule's own facts (Account and its calls, "Statement"; demand 3), for any n, any weights above 0 and any readings that never fall:
 -- the parts add up to last less first, each is less than 1 Wh from its exact share, and the energy from a reading to a marked boundary
--- is fixed by the two readings that enclose it, their counts and the weights between.
+-- is fixed by the two readings that enclose it, their counts and the weights between. Assumes nothing.
 use mathlib.Core.Path.{_≡_, refl}
 use mathlib.Core.Bool.{true}
 use mathlib.Core.List.{List}

@@ -1,5 +1,5 @@
 -- What a boundary has (Account and its calls, "Statement"): at a reading its count, and from reading to reading one formula, both ends
--- included. It never falls, and depends only on the two enclosing readings, their counts and the weights between.
+-- included. It never falls, and depends only on the two enclosing readings, their counts and the weights between. Assumes nothing.
 use mathlib.Core.Path.{_≡_, sym, _∙_}
 use mathlib.Core.Bool.{true}
 use mathlib.Core.List.{List}
@@ -16,7 +16,7 @@ use Rattle.statement.specs.Facts.{Valid, HasRule, EnclosedOnly}
 use Rattle.statement.proofs.Order.{LiesBetween, earlier-is, later-is, adjacent-rise}
 use Rattle.statement.proofs.Sums.{sum-empty, sum-splits, sum-positive, sum-same}
 
-pub share-none : (e z : ℕ) → 0 < z → shareOf e 0 z ≡ 0
+share-none : (e z : ℕ) → 0 < z → shareOf e 0 z ≡ 0
 unfolding shareOf
 share-none e z pos = let same : e * 0 ≡ 0 * z = omega arith in rw same (nearest-multiple 0 z pos)
 

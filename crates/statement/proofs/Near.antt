@@ -1,4 +1,5 @@
 -- Each part is less than 1 Wh from its exact share (Account and its calls, "Statement"): the closeness of shares, for the rule itself.
+-- Assumes nothing.
 use mathlib.Core.Path.{_≡_}
 use mathlib.Core.List.{List}
 use Prim.Native.Nat.{ℕ, _+_, _-_, _*_, _≤_, _<_}

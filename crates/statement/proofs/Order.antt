@@ -1,4 +1,4 @@
--- Which readings enclose a boundary (Account and its calls, "Statement"): adjacent readings, earlier and later, first and last.
+-- Which readings enclose a boundary (Account and its calls, "Statement"): adjacent readings, earlier and later, first and last. Assumes nothing.
 use mathlib.Core.Path.{_≡_}
 use mathlib.Core.Bool.{Bool, true, false, _&&_}
 use mathlib.Core.List.{List}

@@ -1,5 +1,5 @@
 -- The parts of a statement and the slices they are written to (Account and its calls, "Statement"): where each part ends, that they
--- fit the outputs, and sums over them.
+-- fit the outputs, and sums over them. Assumes nothing.
 use mathlib.Core.Path.{_≡_, refl, sym, _∙_}
 use mathlib.Core.Bool.{Bool, true, false, cond, _&&_, and-false}
 use mathlib.Core.List.{List, [], _∷_, _++_, map, append-nil}
@@ -33,7 +33,7 @@ module _ (w : List ℕ) (s : Stands) where
     pub after : firstReading (length w) (s .readings) < k
     pub upto : k ≤ lastReading (length w) (s .readings)
 
-  pub ends-is : (k : ℕ) → endsPart w s k ≡ true → Ends k
+  ends-is : (k : ℕ) → endsPart w s k ≡ true → Ends k
   ends-is k h =
       let asked : (b : Bool) → (b ≡ false → endsPart w s k ≡ false) → b ≡ true = λ b none. needed b (λ e. clash h (none e)) in
       record {

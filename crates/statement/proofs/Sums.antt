@@ -1,4 +1,5 @@
 -- The sums of day weights (Account and its calls, "Statement"): empty, split at a boundary, above 0, and fixed by the days between.
+-- Assumes nothing.
 use mathlib.Core.Path.{_≡_, refl}
 use mathlib.Core.Bool.{Bool, true, false}
 use mathlib.Core.List.{List}

@@ -1,4 +1,4 @@
--- The energy between two marked boundaries is what the later has less what the earlier has (Account and its calls, "Statement").
+-- The energy between two marked boundaries is what the later has less what the earlier has (Account and its calls, "Statement"). Assumes nothing.
 use mathlib.Core.Path.{_≡_, refl, _∙_}
 use mathlib.Core.Bool.{Bool, true, false}
 use mathlib.Core.List.{List}

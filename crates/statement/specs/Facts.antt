@@ -19,7 +19,7 @@ pub record Valid (w : List ℕ) (r : Readings) : Type 0 where
   pub weights : (d : ℕ) → d < length w → 0 < getD w d 0
   pub rises : neverFalling r (suc (length w)) ≡ true
 
--- fewer than two readings is not the case
+-- at least two readings stand
 abbrev pub TwoReadings : List ℕ → Stands → Type 0
 TwoReadings w s = ltb (howMany (s .readings .at) (suc (length w))) 2 ≡ false
 

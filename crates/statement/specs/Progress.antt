@@ -40,12 +40,12 @@ pub record Checked (a : Account) : Type 0 where
   pub good : sound a ≡ true
 
 -- the outputs hold the parts that end below boundary m, and zeros past them;
--- so many `parts` there are, and the next starts at the boundary `start`, which has `value`
+-- so many `parts` there are, and the next starts at the boundary `start`, which has `count`
 pub record Written (w : List ℕ) (s : Stands) (m : ℕ) (o : Outputs) (d : Progress) : Type 0 where
   pub holds : o ≡ written (length w) (partsBelow w s m)
   pub parts : d .parts ≡ length (partsBelow w s m)
   pub start : d .start ≡ last (marked s) m
-  pub value : d .value ≡ has w (s .readings) (last (marked s) m)
+  pub count : d .count ≡ has w (s .readings) (last (marked s) m)
 
 -- the parts up to the reading at which the next part starts are written, and q is the next reading
 pub record Interval (a : Account) (q : ℕ) (o : Outputs) (d : Progress) : Type 0 where
@@ -66,21 +66,21 @@ pub record Filled (a : Account) (o : Outputs) (m : ℕ) : Type 0 where
   pub how-many : m ≡ length (parts (a .weights) (shown a))
 
 -- a part can be added: there is room for it, its boundaries fit 16 bits, and its end has at least what its start has
-pub record Addable (o : Outputs) (d : Progress) (end value : ℕ) : Type 0 where
+pub record Addable (o : Outputs) (d : Progress) (end count : ℕ) : Type 0 where
   pub from : d .parts < length (o .from)
   pub to : d .parts < length (o .to)
   pub wh : d .parts < length (o .wh)
   pub starts : d .start < 65_536
   pub ends : end < 65_536
-  pub rises : d .value ≤ value
+  pub rises : d .count ≤ count
 
--- the outputs and the progress after a part to `end`, which has `value`
+-- the outputs and the progress after a part to `end`, which has `count`
 abbrev pub withPart : Outputs → Progress → ℕ → ℕ → Outputs
-withPart o d end value =
+withPart o d end count =
     outputs
     (set (o .from) (d .parts) (d .start))
     (set (o .to) (d .parts) end)
-    (set (o .wh) (d .parts) (value - d .value))
+    (set (o .wh) (d .parts) (count - d .count))
 
 abbrev pub nextPart : Progress → ℕ → ℕ → Progress
-nextPart d end value = record { start = end; value = value; parts = d .parts + 1 }
+nextPart d end count = record { start = end; count = count; parts = d .parts + 1 }

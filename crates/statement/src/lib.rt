@@ -22,10 +22,10 @@ pub enum StatementAnswer {
     TooFewReadings,
 }
 
-// How far a statement is written: so many `parts` are, and the next starts at the boundary `start`, which has `value`.
+// How far a statement is written: so many `parts` are, and the next starts at the boundary `start`, which has `count`.
 struct Progress {
     start: usize,
-    value: u64,
+    count: u64,
     parts: usize,
 }
 
@@ -82,32 +82,32 @@ fn weight_sum(weights: &[u32], p: usize, q: usize) -> u64
 }
 
 // What a cut has between two readings: the earlier reading's count `low`, and its share of the energy e between them.
-fn cut_value(low: u64, e: u64, zk: u64, z: u64) -> u64
+fn cut_count(low: u64, e: u64, zk: u64, z: u64) -> u64
     requires { ⌜ Splittable low e zk z ⌝ }
     ensures { λ r. ⌜ r ≡ low + shareOf e zk z ⌝ }
 {
     low + rounding::nearest_of(e * zk, z)
 }
 
-// Writes the part that ends at boundary `end`, which has `value`.
+// Writes the part that ends at boundary `end`, which has `count`.
 fn add_part(
     from: &mut [u16],
     to: &mut [u16],
     wh: &mut [u64],
     done: Progress,
     end: usize,
-    value: u64,
+    count: u64,
 ) -> Progress
-    requires { ⌜ Addable (outputs (now from) (now to) (now wh)) done end value ⌝ }
-    ensures { λ r. ⌜ (r ≡ nextPart done end value) × (outputs (now (from .exit)) (now (to .exit)) (now (wh .exit)) ≡ withPart (outputs (now (from .entry)) (now (to .entry)) (now (wh .entry))) done end value) ⌝ }
+    requires { ⌜ Addable (outputs (now from) (now to) (now wh)) done end count ⌝ }
+    ensures { λ r. ⌜ (r ≡ nextPart done end count) × (outputs (now (from .exit)) (now (to .exit)) (now (wh .exit)) ≡ withPart (outputs (now (from .entry)) (now (to .entry)) (now (wh .entry))) done end count) ⌝ }
 {
     let at = done.parts;
     from[at] = done.start as u16;
     to[at] = end as u16;
-    wh[at] = value - done.value;
+    wh[at] = count - done.count;
     Progress {
         start: end,
-        value: value,
+        count: count,
         parts: at + 1,
     }
 }
@@ -127,7 +127,7 @@ fn fill_interval(
     ensures { λ r. ⌜ Written (now (weights .entry)) (shown (account (now (weights .entry)) (now (marks .entry)) (now (counts .entry)))) (q + 1) (outputs (now (from .exit)) (now (to .exit)) (now (wh .exit))) r ⌝ }
 {
     let p = done.start;
-    let low = done.value;
+    let low = done.count;
     let high = counts[q];
     let e = high - low;
     let z = weight_sum(weights, p, q);
@@ -136,8 +136,8 @@ fn fill_interval(
     let mut reached = done;
     while k < q {
         if marks[k] != 0 {
-            let value = cut_value(low, e, zk, z);
-            reached = add_part(from, to, wh, reached, k, value);
+            let count = cut_count(low, e, zk, z);
+            reached = add_part(from, to, wh, reached, k, count);
         }
         zk += weights[k] as u64;
         k += 1;
@@ -161,7 +161,7 @@ fn fill(
     let first = next_reading(marks, 0);
     let mut done = Progress {
         start: first,
-        value: counts[first],
+        count: counts[first],
         parts: 0,
     };
     let mut q = next_reading(marks, first + 1);

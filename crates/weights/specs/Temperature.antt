@@ -3,8 +3,9 @@
 use mathlib.Core.Path.{_≡_}
 use mathlib.Core.Bool.{true}
 use mathlib.Core.List.{List, [], _∷_}
-use Prim.Native.Nat.{ℕ, _*_}
+use Prim.Native.Nat.{ℕ, _*_, _<_}
 use lib.IntN.{ℤ, pos, _+ℤ_, _*ℤ_}
+use lib.Signed.{_≤ℤ_}
 use Rattle.profile.specs.Limits.{inRange}
 use Rattle.profile.specs.Weight.{floorℤ}
 use Rattle.profile.specs.Rows.{row, ifDone}
@@ -15,6 +16,15 @@ use Rattle.weights.specs.declared.TemperatureAnswer.the-variants.{Temper
 -- x / d to the nearest whole number, an exact half going up
 abbrev pub nearestℤ : ℤ → ℕ → ℤ
 nearestℤ x d = floorℤ (pos 2 *ℤ x +ℤ pos d) (2 * d)
+
+-- q is at most a half above x / d, and less than a half below it
+pub record IsNearestℤ (x : ℤ) (d : ℕ) (q : ℤ) : Type 0 where
+  pub not-above : (pos 2 *ℤ (q *ℤ pos d)) ≤ℤ (pos 2 *ℤ x +ℤ pos d)
+  pub not-below : (pos 2 *ℤ x +ℤ pos 1) ≤ℤ (pos 2 *ℤ (q *ℤ pos d) +ℤ pos d)
+
+-- where d is above 0 there is one such q, `nearestℤ x d`, also below zero (proofs/Half, `one-nearest`)
+abbrev pub OneNearestℤ : Type 0
+OneNearestℤ = (x : ℤ) (d : ℕ) → 0 < d → IsNearestℤ x d (nearestℤ x d) × ((q : ℤ) → IsNearestℤ x d q → q ≡ nearestℤ x d)
 
 abbrev pub weighted : ℤ → ℤ → ℤ → ℤ → ℤ
 weighted a b c d = pos 8 *ℤ a +ℤ pos 4 *ℤ b +ℤ pos 2 *ℤ c +ℤ d

@@ -1,4 +1,5 @@
-//! Versions of the timed calls (weights, reading, statement, case file) that a programmer would write for speed.
+//! Two versions of the timed calls (weights, reading, statement, case file), for docs/BENCHMARK.md: `plain` as one writes them straight
+//! away, `same` with the proved algorithms.
 
 pub mod plain;
 pub mod same;

@@ -24,7 +24,7 @@ fits : (c : tie.Else1) → unfit (lent (c .before .before .before .before .befor
 fits c = sym (c .before .unfit .ensures) ∙ c .if1 .left
 
 weights-good : (c : tie.Else2) → goodWeights (lent (c .before .before .before .before .before .before .before) .weights) ≡ true
-weights-good c = sym (c .before .good-weights .ensures .says) ∙ not-false _ (c .if2 .left)
+weights-good c = sym (c .before .good-weights .ensures .gives) ∙ not-false _ (c .if2 .left)
 
 boundaries-good : (c : tie.Else3) → goodBoundaries (lent (c .before .before .before .before .before .before .before .before .before)) ≡ true
 boundaries-good c = sym (c .before .good-boundaries .ensures) ∙ not-false _ (c .if3 .left)
@@ -41,7 +41,7 @@ good-weights-requires c κs = tt
 returns-2 : tie.Need-returns-2
 returns-2 c =
     let a = lent (c .before .before .before .before .before .before .before) in
-    tells a _ (unsound-rows a 0 (fits (c .before .before)) (weights-unsound a (sym (c .before .good-weights .ensures .says) ∙ not-true _ (c .if2 .taken))))
+    tells a _ (unsound-rows a 0 (fits (c .before .before)) (weights-unsound a (sym (c .before .good-weights .ensures .gives) ∙ not-true _ (c .if2 .taken))))
 
 good-boundaries-requires : tie.Need-good-boundaries-requires
 good-boundaries-requires c κs = fit _ (fits (c .before .before))

@@ -27,11 +27,11 @@ good x l h = rw (le-leb weightLeast x l, le-leb x weightMost h)
 
 fails : (w : List ℕ) (d : ℕ) → d < length w → goodWeight (getD w d 0) ≡ false → GoodWeightsMet w false w
 unfolding goodWeights
-fails w d l h = record { says = sym (every-fails _ _ d l h); stays = refl }
+fails w d l h = record { gives = sym (every-fails _ _ d l h); stays = refl }
 
 all : (w : List ℕ) (d : ℕ) → d ≡ length w → everywhere (λ j. goodWeight (getD w j 0)) d ≡ true → GoodWeightsMet w true w
 unfolding goodWeights
-all w d e h = record { says = sym (subst (λ (m : ℕ). everywhere (λ j. goodWeight (getD w j 0)) m ≡ true) e h); stays = refl }
+all w d e h = record { gives = sym (subst (λ (m : ℕ). everywhere (λ j. goodWeight (getD w j 0)) m ≡ true) e h); stays = refl }
 
 abbrev Inv-loop : tie.InvT-loop
 Inv-loop weights d₀ d = (d ≤ length weights) × (everywhere (λ j. goodWeight (getD weights j 0)) d ≡ true)

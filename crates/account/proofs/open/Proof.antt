@@ -43,7 +43,7 @@ good-weights-requires c κs = tt
 returns-2 : tie.Need-returns-2
 returns-2 c =
     let a = lent (c .before .before .before .before .before .before .before) in
-    let is = five a (fits (c .before .before)) (sym (c .before .good-weights .ensures .says) ∙ not-true _ (c .if2 .taken)) in
+    let is = five a (fits (c .before .before)) (sym (c .before .good-weights .ensures .gives) ∙ not-true _ (c .if2 .taken)) in
     record { answers = is; leaves = leaves-refused _ _ _ (λ (e : openNumber a ≡ 0). omega (arith, is ∙ e)) }
 
 clear-marks-requires : tie.Need-clear-marks-requires
@@ -62,7 +62,7 @@ returns-3 : tie.Need-returns-3
 returns-3 c =
     let start = c .before .before .before .before .before .before .before .before .before .before .before .before .before .before .before in
     let test = c .before .before .before .before .before .before .before .before in
-    let is = none (lent start) (fits (test .before .before)) (sym (test .before .good-weights .ensures .says) ∙ not-false _ (test .if2 .left)) in
+    let is = none (lent start) (fits (test .before .before)) (sym (test .before .good-weights .ensures .gives) ∙ not-false _ (test .if2 .left)) in
     record {
       answers = is;
       leaves =

@@ -1,6 +1,6 @@
 -- `customer::customer_value` meets its contract: each return is the row of the table that its tests led to. Assumes nothing.
 use mathlib.Core.Path.{_≡_, refl, sym, ap, _∙_}
-use mathlib.Core.Bool.{false}
+use mathlib.Core.Bool.{false, true}
 use mathlib.Core.List.{List}
 use Prim.Native.Nat.{ℕ, _*_, _≤_}
 use native.Mathlib.Omega.{arith}
@@ -9,6 +9,7 @@ use lib.Dec.{ltb}
 use lib.ListN.{length}
 use Rattle.rounding.specs.Nearest.{nearest}
 use Rattle.profile.specs.Limits.{spanMost, badSpan}
+use Rattle.account.specs.Account.{goodWeights}
 use Rattle.customer.specs.Customer.{customerValue, valueMost}
 use borrow.Author.Needs.{needs}
 use Rattle.customer.proofs.customer_value.Statement.{statement}
@@ -36,14 +37,14 @@ returns-3 : tie.Need-returns-3
 returns-3 c =
     let w = c .before .before .before .before .before .args .weights .now in
     let span = spanned w (c .before .before .before .if1 .left) (c .before .before .if2 .left) in
-    let bad = sym (c .before .good-weights .ensures .says) ∙ not-true _ (c .if3 .taken) in
+    let bad = sym (c .before .good-weights .ensures .gives) ∙ not-true _ (c .if3 .taken) in
     record { answers = simp (span, bad); gives = simp (span, bad); stays = refl }
 
 returns-4 : tie.Need-returns-4
 returns-4 c =
     let a = c .before .before .before .before .before .before .args in
     let span = spanned (a .weights .now) (c .before .before .before .before .if1 .left) (c .before .before .before .if2 .left) in
-    let good = sym (c .before .before .good-weights .ensures .says) ∙ not-false _ (c .before .if3 .left) in
+    let good = sym (c .before .before .good-weights .ensures .gives) ∙ not-false _ (c .before .if3 .left) in
     let much = lt-ltb 2_000_000_000 (a .energy) (c .if4 .taken) in
     record { answers = simp (span, good, much); gives = simp (span, good, much); stays = refl }
 
@@ -56,29 +57,35 @@ sum-of-requires c κs = search needs
 nearest-of-requires : tie.Need-nearest-of-requires
 nearest-of-requires c κs = search needs
 
+-- what is known where a value was computed: rows 3, 5 and 9 do not hold, and it is the rule's
+record Computed (energy : ℕ) (w : List ℕ) (value : ℕ) : Type 0 where
+  span : badSpan (length w) ≡ false
+  good : goodWeights w ≡ true
+  small : ltb 2_000_000_000 energy ≡ false
+  rule : value ≡ customerValue energy w
+
+computed : (c : tie.After-nearest-of) → Computed (c .before .before .before .before .before .before .before .before .args .energy) (c .before .before .before .before .before .before .before .before .args .weights .now) (c .nearest-of .result)
+computed c =
+    let e = c .before .before in
+    let a = e .before .before .before .before .before .before .args in
+    record {
+      span = spanned (a .weights .now) (e .before .before .before .before .if1 .left) (e .before .before .before .if2 .left);
+      good = sym (e .before .before .good-weights .ensures .gives) ∙ not-false _ (e .before .if3 .left);
+      small = le-ltb 2_000_000_000 (a .energy) (e .if4 .left);
+      rule = c .nearest-of .ensures ∙ ap (nearest (a .energy * 10_000_000)) (c .before .sum-of .ensures);
+    }
+
 returns-5 : tie.Need-returns-5
 returns-5 c =
-    let e = c .before .before .before in
-    let a = e .before .before .before .before .before .before .args in
-    let span = spanned (a .weights .now) (e .before .before .before .before .if1 .left) (e .before .before .before .if2 .left) in
-    let good = sym (e .before .before .good-weights .ensures .says) ∙ not-false _ (e .before .if3 .left) in
-    let energy = le-ltb 2_000_000_000 (a .energy) (e .if4 .left) in
-    let value : c .before .nearest-of .result ≡ customerValue (a .energy) (a .weights .now) =
-    c .before .nearest-of .ensures ∙ ap (nearest (a .energy * 10_000_000)) (c .before .before .sum-of .ensures) in
-    let great = ap (ltb valueMost) (sym value) ∙ lt-ltb valueMost _ (c .if5 .taken) in
-    record { answers = simp (span, good, energy, great); gives = simp (span, good, energy, great); stays = refl }
+    let h = computed (c .before) in
+    let great = ap (ltb valueMost) (sym (h .rule)) ∙ lt-ltb valueMost _ (c .if5 .taken) in
+    record { answers = simp (h .span, h .good, h .small, great); gives = simp (h .span, h .good, h .small, great); stays = refl }
 
 returns-6 : tie.Need-returns-6
 returns-6 c =
-    let e = c .before .before .before in
-    let a = e .before .before .before .before .before .before .args in
-    let span = spanned (a .weights .now) (e .before .before .before .before .if1 .left) (e .before .before .before .if2 .left) in
-    let good = sym (e .before .before .good-weights .ensures .says) ∙ not-false _ (e .before .if3 .left) in
-    let energy = le-ltb 2_000_000_000 (a .energy) (e .if4 .left) in
-    let value : c .before .nearest-of .result ≡ customerValue (a .energy) (a .weights .now) =
-    c .before .nearest-of .ensures ∙ ap (nearest (a .energy * 10_000_000)) (c .before .before .sum-of .ensures) in
-    let small = ap (ltb valueMost) (sym value) ∙ le-ltb valueMost _ (c .if5 .left) in
-    record { answers = simp (span, good, energy, small); gives = simp (span, good, energy, small) value; stays = refl }
+    let h = computed (c .before) in
+    let within = ap (ltb valueMost) (sym (h .rule)) ∙ le-ltb valueMost _ (c .if5 .left) in
+    record { answers = simp (h .span, h .good, h .small, within); gives = simp (h .span, h .good, h .small, within) (h .rule); stays = refl }
 
 pub customer-value-spec : {M : Type 1} → statement M
 customer-value-spec =

@@ -18,25 +18,25 @@ returns c =
     let a = c .before .before .before .before .before .before .before .before .before .args in
     let b = account (a .weights .now) (a .marks .now) (a .counts .now) in
     let says = refusal-says b 3 (too-long b (c .before .before .before .before .if1 .taken)) (λ e. omega arith) in
-    rw says (record { laid = c .before .before .refusal-text .ensures; stays = refl })
+    rw says (record { prints = c .before .before .refusal-text .ensures; stays = refl })
 
-slice-aggregate-by-way-of : tie.Need-slice-aggregate-by-way-of
-slice-aggregate-by-way-of c = search needs
+slice-aggregate-with-outputs : tie.Need-slice-aggregate-with-outputs
+slice-aggregate-with-outputs c = search needs
 
-slice-aggregate-by-way-of-2 : tie.Need-slice-aggregate-by-way-of-2
-slice-aggregate-by-way-of-2 c = search needs
+slice-aggregate-with-outputs-2 : tie.Need-slice-aggregate-with-outputs-2
+slice-aggregate-with-outputs-2 c = search needs
 
-slice-aggregate-by-way-of-3 : tie.Need-slice-aggregate-by-way-of-3
-slice-aggregate-by-way-of-3 c = search needs
+slice-aggregate-with-outputs-3 : tie.Need-slice-aggregate-with-outputs-3
+slice-aggregate-with-outputs-3 c = search needs
 
-by-way-of-requires : tie.Need-by-way-of-requires
-by-way-of-requires c κs = search needs
+with-outputs-requires : tie.Need-with-outputs-requires
+with-outputs-requires c κs = search needs
 
 same-length-2 : tie.Need-same-length-2
 same-length-2 c = search needs
 
 returns-2 : tie.Need-returns-2
-returns-2 c = record { laid = c .before .before .before .before .before .by-way-of .ensures; stays = refl }
+returns-2 c = record { prints = c .before .before .before .before .before .with-outputs .ensures; stays = refl }
 
 pub account-text-spec : {M : Type 1} → statement M
 account-text-spec =
@@ -45,9 +45,9 @@ account-text-spec =
     refusal-text-requires
     same-length
     returns
-    slice-aggregate-by-way-of
-    slice-aggregate-by-way-of-2
-    slice-aggregate-by-way-of-3
-    by-way-of-requires
+    slice-aggregate-with-outputs
+    slice-aggregate-with-outputs-2
+    slice-aggregate-with-outputs-3
+    with-outputs-requires
     same-length-2
     returns-2)

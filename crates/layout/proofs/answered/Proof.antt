@@ -31,7 +31,7 @@ same-length : tie.Need-same-length
 same-length c = search needs
 
 returns : tie.Need-returns
-returns c = rw (c .before .before .before .before .before .answer .given .1) (c .before .before .statement-text .ensures .laid)
+returns c = rw (c .before .before .before .before .before .answer .given .1) (c .before .before .statement-text .ensures .prints)
 
 same-length-2 : tie.Need-same-length-2
 same-length-2 c = search needs

@@ -7,9 +7,10 @@ use native.Mathlib.Omega.{arith}
 use borrow.Author.Needs.{needs}
 use lib.ListN.{length}
 use Rattle.account.specs.Account.{account}
+use Rattle.layout.specs.Accounts.{textMost}
 use Rattle.script.specs.Numbers.{most64}
 use Rattle.session.specs.Lines.{session}
-use Rattle.session.specs.Transcript.{longest, oneMore}
+use Rattle.session.specs.Transcript.{oneMore}
 use Rattle.session.proofs.Running.{Going, going-none, going-more, ran-met, line-within, goes, stops}
 use Rattle.session.proofs.run.Statement.{statement}
 use Rattle.session.proofs.run.Tie as tie
@@ -38,7 +39,7 @@ one-more-requires c κs = search needs
 went : (c : tie.Then1 Inv-loop μ-loop) →
     (c .before .before .loop .at < length (c .before .before .before .before .before .before .before .before .args .text .now)) ×
     (c .before .before .loop .done < most64) ×
-    (longest ≤ length (c .before .before .before .before .before .before .before .before .args .out .now) - c .before .before .loop .length) ×
+    (textMost ≤ length (c .before .before .before .before .before .before .before .before .args .out .now) - c .before .before .loop .length) ×
     (oneMore (c .before .before .loop .done) (length (c .before .before .before .before .before .before .before .before .args .out .now) - c .before .before .loop .length) ≡ true)
 went c =
     let l = c .before .before .loop in

@@ -58,15 +58,15 @@ loop-holds c =
 shared-slice-read-if1 : tie.Need-shared-slice-read-if1 Inv-loop μ-loop
 shared-slice-read-if1 c = omega (arith, within-room (c .before .before .loop .inv))
 
-cut-value-requires : tie.Need-cut-value-requires Inv-loop μ-loop
-cut-value-requires c κs =
+cut-count-requires : tie.Need-cut-count-requires Inv-loop μ-loop
+cut-count-requires c κs =
     let at = c .before .before .before in
     within-splittable (at .loop .inv) (omega (arith, at .before .before .before .shared-slice-known4 .given (at .before .before .before .before .before .before .before .before .before .before .args .q)))
 
 add-part-requires : tie.Need-add-part-requires Inv-loop μ-loop
 add-part-requires c κs =
     let at = c .before .before .before .before .before .before .before in
-    within-addable (at .loop .inv) (c .before .before .before .before .before .before .loop-test .taken) _ (c .before .before .before .cut-value .ensures)
+    within-addable (at .loop .inv) (c .before .before .before .before .before .before .loop-test .taken) _ (c .before .before .before .cut-count .ensures)
 
 mul-zk : tie.Need-mul-zk Inv-loop μ-loop
 mul-zk c = omega (arith, within-room (c .before .before .before .loop .inv))
@@ -148,7 +148,7 @@ fill-interval-spec =
     weight-sum-requires-2
     loop-holds
     shared-slice-read-if1
-    cut-value-requires
+    cut-count-requires
     add-part-requires
     mul-zk
     shared-slice-read-zk

@@ -10,7 +10,7 @@ use std::io::Write;
 use std::path::{Path, PathBuf};
 use std::process::{Command, Stdio};
 
-/// Rounds of a row, and the least nanoseconds that the quickest version runs in a round.
+/// Rounds of a row, and about how many nanoseconds each version runs in a round.
 const ROUNDS: usize = 101;
 const ROUND: u64 = 1_000_000;
 const LIBRARIES: [&dyn Library; 3] = [&PLAIN, &SAME, &Proved];

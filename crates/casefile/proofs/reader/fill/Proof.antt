@@ -42,7 +42,7 @@ use denote.Exit.{yes}
 use denote.Triple.Clauses.{ensured, lasts}
 use Rattle.account.specs.Account.{account}
 use Rattle.casefile.specs.Faults.{faultOf}
-use Rattle.casefile.specs.Sections.{filedFault, AllClear, SpanMet, ReadingsFrom, ReadingsMet, CutsFrom, CutsMet, FillMet}
+use Rattle.casefile.specs.Sections.{beforeCutsFault, AllClear, SpanMet, ReadingsFrom, ReadingsMet, CutsFrom, CutsMet, FillMet}
 use Rattle.casefile.specs.declared.reader.Reader.{Reader}
 use Rattle.casefile.specs.declared.sections.SectionEnd.{SectionEnd}
 use Rattle.casefile.proofs.Again.{LentAgain, lends-again, comes-back}
@@ -140,7 +140,7 @@ module _ {M : Type 1} (𝓤 : URA M) (H : Heap 𝓤) (A : Atoms 𝓤) (W : Given
   abbrev Post : Val → SProp 𝓤
   Post = walkOf 𝓤 H A self.ended stayed (self.clauses 𝓤 H A mem run) .post (((κ, (κ₁, (κ₂, (κ₃, tt)))), (q, (q₁, (q₂, (q₃, tt)))), tt, (xf, (x₁, (x₂ γ₂ ms, (x₃, tt)))), (sf ∷ [], (s₁ ∷ [], (s₂ ∷ [], (s₃ ∷ [], tt))))), tt)
 
-  -- a reader's machine value has the struct's MIR type in a local, and a progress is at its own
+  -- a reader's machine value has the struct's MIR type in a local, and a section's end is at its own
   typed : (d : Reader) (w : Val) → Is Row d (w ∷ []) → Holds (hasTy (T′.mir erased) w) × WT w
   typed d w is = LL.lawful (T.the-type αᵉ) (T′.the-laws αᵉ) 𝓤 H A W .typed d _ is .0
 
@@ -248,7 +248,7 @@ module _ {M : Type 1} (𝓤 : URA M) (H : Heap 𝓤) (A : Atoms 𝓤) (W : Given
         move ! (5 ∷ 2 ∷ 10 ∷ 3 ∷ 0 ∷ 9 ∷ []) $ group ! 6 $ use1 W (raw (Readings 𝓤 H A mem run .pre (to-readings w₁ p₁ ν δ))) (goes-readings w₁ p₁ ν δ (is-lowered p₁ u₁ isp₁) (record { reached = e₁ .reached; follows = refl; marks-clear = φ .marks; counts-clear = φ .counts })) $
         calls-at ! fm (Readings 𝓤 H A mem run) known-readings (to-readings w₁ p₁ ν δ) (and-then ! (load ! (from ! (stop !)) (look ! 22 refl)) (and-then ! (load ! (from ! (stop !)) (look ! 38 refl)) (and-then ! (load ! (from ! (stop !)) (look ! 18 refl)) (and-then ! (load ! (from ! (stop !)) (look ! 14 refl)) (no-more !))))) (λ u₂.
         use1 W (later (some (λ (r : SectionEnd). ((‵ (flft κ q) ⊛ ‵ (flft (ν ∷ []) fullShare) ⊛ ‵ (flft κ₃ q₃) ⊛ ‵ ftrue) ⊛ ‵ (P.the-row .own r (u₂ ∷ []))) ⊛ raw (ensured 𝓤 H A readings.ended (readings.clauses 𝓤 H A mem run) (κ, (ν ∷ [], (κ₃, tt))) (at (p₁ .next), (p₁, (x₂ δ ms, (x₃, tt)))) tt r)))) (id⊢ 𝓤 _) $ await ! tt $ pick ! (λ p₂. split ! $
-        move ! (1 ∷ []) $ use1 W (some (λ (zs : Unit {0} × (Unit {0} × (List ℕ × (List ℕ × Unit {0})))). ‵ (lasts readings.ended (κ, (ν ∷ [], (κ₃, tt))) (at (p₁ .next), (p₁, (x₂ δ ms, (x₃, tt)))) zs) ⊛ raw (fact 𝓤 (ReadingsMet (now xf) (filedFault (now xf)) p₂ (zs .1 .1 .0) (zs .1 .1 .1 .0))))) (id⊢ 𝓤 _) $ pick ! (λ zs₂. split ! $ move ! (1 ∷ []) $ heard ! (ReadingsMet (now xf) (filedFault (now xf)) p₂ (zs₂ .1 .1 .0) (zs₂ .1 .1 .1 .0)) (λ e₂.
+        move ! (1 ∷ []) $ use1 W (some (λ (zs : Unit {0} × (Unit {0} × (List ℕ × (List ℕ × Unit {0})))). ‵ (lasts readings.ended (κ, (ν ∷ [], (κ₃, tt))) (at (p₁ .next), (p₁, (x₂ δ ms, (x₃, tt)))) zs) ⊛ raw (fact 𝓤 (ReadingsMet (now xf) (beforeCutsFault (now xf)) p₂ (zs .1 .1 .0) (zs .1 .1 .1 .0))))) (id⊢ 𝓤 _) $ pick ! (λ zs₂. split ! $ move ! (1 ∷ []) $ heard ! (ReadingsMet (now xf) (beforeCutsFault (now xf)) p₂ (zs₂ .1 .1 .0) (zs₂ .1 .1 .1 .0)) (λ e₂.
         fsplit ! $ drop ! $ fsplit ! $ drop ! $ fsplit ! $ fsplit ! $ move ! (1 ∷ []) $ feqL ! (λ lm₁. move ! (1 ∷ []) $ fsplit ! $ move ! (1 ∷ []) $ drop ! $ fsplit ! $ move ! (1 ∷ []) $ feqL ! (λ lc.
         move ! (2 ∷ []) $ split ! $ split ! $ move ! (1 ∷ []) $ split ! $ move ! (1 ∷ []) $ split ! $ move ! (1 ∷ []) $ drop ! $
         move ! (3 ∷ []) $ peeks ! P.the-row (Is P.the-row) (shows 𝓤 H A P.the-row) p₂ (u₂ ∷ []) (λ isp₂. land ! (from ! (stop !)) (init ! 39 refl (LL.lawful P.the-type P′.the-laws 𝓤 H A W .typed p₂ _ isp₂ .0)) $ drop ! $ rewrite ! 38 (λ (u : Val). ‵ (fat fullShare P′.mir l₈ 0 u)) (lower p₂ u₂ isp₂) refl $

@@ -1,5 +1,5 @@
 -- `casefile::reader::readings` meets its contract: a walk of its MIR, by hand. The reader is taken apart, and `readings_at` is called on the file, the position, the progress so far and the lent marks and counts.
--- What the reader owns is kept whole for the exit, and what the progress owns is had for nothing. The marks and counts are given up for good (`gave-slice`). All that the proof knows of `readings_at` is that it meets its contract.
+-- What the reader owns is kept whole for the exit, and what the section's end owns is had for nothing. The marks and counts are given up for good (`gave-slice`). All that the proof knows of `readings_at` is that it meets its contract.
 -- Assumes nothing.
 use mathlib.Core.Path.{_≡_, refl}
 use Prim.Native.Nat.{ℕ, _<_, _^_}
@@ -40,7 +40,7 @@ use denote.Triple.Table.{entered, cited}
 use denote.Triple.Walked.{says, needs, Stays, stay-none, gave-slice, walkOf, goes-none, goes-gave-slice, Walks, ends-at, walked, walk-meets}
 use denote.Exit.{yes}
 use denote.Triple.Clauses.{ensured, lasts}
-use Rattle.casefile.specs.Sections.{filedFault, ReadingsFrom, ReadingsMet}
+use Rattle.casefile.specs.Sections.{beforeCutsFault, ReadingsFrom, ReadingsMet}
 use Rattle.casefile.specs.declared.reader.Reader.{Reader}
 use Rattle.casefile.specs.declared.sections.SectionEnd.{SectionEnd}
 use Rattle.casefile.proofs.reader.Reader as T
@@ -105,7 +105,7 @@ module _ {M : Type 1} (𝓤 : URA M) (H : Heap 𝓤) (A : Atoms 𝓤) (W : Given
   Asked = ReadingsFrom (now (d .file)) (d .at) p ms cs
 
   abbrev Met : SectionEnd → List ℕ → List ℕ → Type 0
-  Met r zm zc = ReadingsMet (now (d .file)) (filedFault (now (d .file))) r zm zc
+  Met r zm zc = ReadingsMet (now (d .file)) (beforeCutsFault (now (d .file))) r zm zc
 
   abbrev Post : Val → SProp 𝓤
   Post = walkOf 𝓤 H A self.ended stayed (self.clauses 𝓤 H A mem run) .post ((κs, (q, (q′, (q′′, tt))), tt, (d, (p, (xm, (xc, tt)))), (mach ∷ [], (pmach ∷ [], (sm ∷ [], (sc ∷ [], tt))))), tt)

@@ -1,5 +1,4 @@
 -- `session::gathered::gather` meets its contract. Assumes nothing.
-use native.Mathlib.Omega.{arith}
 use borrow.Author.Needs.{needs}
 use Rattle.account.specs.Account.{account}
 use Rattle.session.specs.Lines.{session}

@@ -1,11 +1,12 @@
 #!/usr/bin/env python3
-"""Tries each fault of the must-fail edits alone.
+"""Tries each wrong program of the must-fail edits alone.
 
-    python3 tools/faults.py [CRATE ..]
+    python3 tools/wrong_programs.py [CRATE ..]
 
-An edit of the gate holds several faults of its crate, at most one in a function, each after a line `# NAME: what is wrong`. The gate shows
-that every edit is refused, proved from nothing. This makes one fault after the other in copies of the repository and has `rt dev` check the
-crate, which checks again only what the fault touches: each must be refused, and not because a proof no longer fits the code's form.
+An edit of the gate holds several of its crate, at most one in a function or definition, each after a line `# NAME: what is wrong`. The gate
+shows that every edit is refused, proved from nothing. This makes one wrong program after the other in copies of the repository and has
+`rt dev` check the crate, which checks again only what that touches: each must be refused, and not because a proof no longer fits the code's
+form.
 """
 import concurrent.futures
 import os
@@ -21,8 +22,8 @@ ROOT = os.path.dirname(os.path.dirname(os.path.abspath(__file__)))
 UNFIT = "that can be named from here"
 
 
-def faults(crate):
-    """The faults of a crate's edits: name, and for each its files with the texts to exchange."""
+def wrong_programs(crate):
+    """The wrong programs of a crate's edits: name, and for each its files with the texts to exchange."""
     folder = os.path.join(ROOT, "crates", crate, "must-fail")
     for name in sorted(os.listdir(folder)) if os.path.isdir(folder) else []:
         with open(os.path.join(folder, name), encoding="utf-8") as file:
@@ -47,7 +48,7 @@ def check(copy, crate):
     return done.returncode == 0, wrong[0].replace(copy + "/", "") if wrong else "no error was printed"
 
 
-def with_fault(copy, crate, pairs):
+def check_wrong(copy, crate, pairs):
     """Checks the crate with these texts exchanged, and puts them back."""
     kept = {}
     for path, old, new in pairs:
@@ -68,13 +69,13 @@ def with_fault(copy, crate, pairs):
 
 
 def try_crate(copies, crate):
-    """The number of faults of a crate, and how many of them were not refused by a fact."""
+    """The number of wrong programs of a crate, and how many of them were not refused by a fact."""
     copy = copies.get()
     count = missed = 0
     if not check(copy, crate)[0]:
         raise SystemExit(f"{crate} is not proved as it is")
-    for name, pairs in faults(crate):
-        proved, first = with_fault(copy, crate, pairs)
+    for name, pairs in wrong_programs(crate):
+        proved, first = check_wrong(copy, crate, pairs)
         verdict = "NOT REFUSED" if proved else "UNFIT" if UNFIT in first else "refused"
         count, missed = count + 1, missed + (verdict != "refused")
         print(f"{crate}/{name}: {verdict} ({first[:110]})", flush=True)
@@ -86,7 +87,7 @@ def main(crates):
     if not crates:
         with open(os.path.join(ROOT, "crates.txt"), encoding="utf-8") as file:
             crates = [line.split(":")[0] for line in file if ":" in line and not line.startswith("#")]
-    crates = sorted((crate for crate in crates if list(faults(crate))), key=lambda crate: -len(list(faults(crate))))
+    crates = sorted((crate for crate in crates if list(wrong_programs(crate))), key=lambda crate: -len(list(wrong_programs(crate))))
     with tempfile.TemporaryDirectory() as scratch, concurrent.futures.ThreadPoolExecutor(os.cpu_count()) as pool:
         copies = queue.Queue()
         for number in range(os.cpu_count()):

@@ -1,10 +1,10 @@
--- `statement::cut_value` meets its contract: e × zk fits 64 bits, and a share is at most e. Assumes nothing.
+-- `statement::cut_count` meets its contract: e × zk fits 64 bits, and a share is at most e. Assumes nothing.
 use native.Mathlib.Nat.{mul-le-mul}
 use native.Mathlib.Omega.{arith}
 use Rattle.statement.specs.Split.{shareOf}
 use Rattle.statement.proofs.CodeSums.{share-most}
-use Rattle.statement.proofs.cut_value.Statement.{statement}
-use Rattle.statement.proofs.cut_value.Tie as tie
+use Rattle.statement.proofs.cut_count.Statement.{statement}
+use Rattle.statement.proofs.cut_count.Tie as tie
 
 mul-nearest-of : tie.Need-mul-nearest-of
 mul-nearest-of c = omega (arith, mul-le-mul (c .pre .energy) (c .pre .share), mul-le-mul (c .pre .energy) (c .pre .sum))
@@ -23,5 +23,5 @@ returns : tie.Need-returns
 unfolding shareOf
 returns c = rw (c .nearest-of .ensures)
 
-pub cut-value-spec : {M : Type 1} → statement M
-cut-value-spec = tie.close (tie.spec mul-nearest-of nearest-of-requires add-result returns)
+pub cut-count-spec : {M : Type 1} → statement M
+cut-count-spec = tie.close (tie.spec mul-nearest-of nearest-of-requires add-result returns)

@@ -1,4 +1,4 @@
--- `layout::by_way_of` meets its contract. Assumes nothing.
+-- `layout::with_outputs` meets its contract. Assumes nothing.
 use mathlib.Core.Path.{sym, _∙_}
 use native.Mathlib.Omega.{arith}
 use lib.ListN.{length, take, drop}
@@ -7,8 +7,8 @@ use Rattle.account.specs.Account.{account}
 use Rattle.statement.specs.Parts.{outputs}
 use Rattle.layout.proofs.Texts.{front-long, answered-says}
 use borrow.Author.Needs.{needs}
-use Rattle.layout.proofs.by_way_of.Statement.{statement}
-use Rattle.layout.proofs.by_way_of.Tie as tie
+use Rattle.layout.proofs.with_outputs.Statement.{statement}
+use Rattle.layout.proofs.with_outputs.Tie as tie
 
 slice-relend-prefix-statement : tie.Need-slice-relend-prefix-statement
 slice-relend-prefix-statement c = search needs
@@ -92,8 +92,8 @@ returns c =
     let ws = take-at w (drop n (a .wh .now)) n (s .statement .kept .1 .1 .1 .1 .1 .0 ∙ wn) in
     rw (sym says) (rw (fs, ts, ws) at (c .before .before .answered .ensures))
 
-pub by-way-of-spec : {M : Type 1} → statement M
-by-way-of-spec =
+pub with-outputs-spec : {M : Type 1} → statement M
+with-outputs-spec =
     tie.close
     (tie.spec
     slice-relend-prefix-statement
