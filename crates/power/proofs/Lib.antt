@@ -1,7 +1,7 @@
--- Laws of the power (Profile value). Callers use `Laws`; `Root` has what a root is, and `AtMostOne` that the power of one is one.
+-- Laws of the power (Profile value). Callers use `Laws`; `Quotient` and `Root` have what a quotient and a root are, and `AtMostOne` that the power of one is one.
 mod Powers
 mod Way
-mod Quotient
+pub mod Quotient
 pub mod Root
 pub mod AtMostOne
 mod Enclosing

@@ -12,6 +12,7 @@ use Rattle.power.specs.declared.rounded.Rounding.{Rounding}
 use Rattle.power.specs.declared.rounded.Rounding.the-variants.{Down, Up}
 use Rattle.power.specs.Power.{one, newton, RoundedDown, RoundedUp, sqrtDown, sqrtUp, square, Roots, squareRoot}
 use Rattle.power.proofs.Way.{Rounded, below, above}
+use Rattle.power.proofs.Quotient.{up-only}
 
 -- with b = a + d, a² + b² is 2ab and d² more
 squares : (a d : ℕ) → (a + d) * (a + d) + a * a ≡ a * (a + d) + a * (a + d) + d * d
@@ -105,11 +106,8 @@ root-up x = turn (ltb (d * d) x) refl
           least = λ (t : ℕ) (h : x ≤ t * t). square-le d t (le-trans (root-down x .low) h);
         }
 
-root-up-only : (x s : ℕ) → RoundedUp square x s → s ≡ sqrtUp x
-root-up-only x s r = le-antisymm (r .least (sqrtUp x) (root-up x .high)) (root-up x .least s (r .high))
-
 pub roots : Roots
-roots x = (root-down x, root-up x, root-down-only x, root-up-only x)
+roots x = (root-down x, root-up x, root-down-only x, λ s is. up-only is (root-up x))
 
 pub root-rounded : (way : Rounding) (x : ℕ) → Rounded way (squareRoot way x * squareRoot way x) x
 unfolding squareRoot
