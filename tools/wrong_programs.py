@@ -3,7 +3,7 @@
 
     python3 tools/wrong_programs.py [CRATE ..]
 
-An edit of the gate holds several of its crate, at most one in a function or definition, each after a line `# NAME: what is wrong`. The gate
+An edit of the gate holds several wrong programs of its crate, at most one in a function or definition, each after a line `# NAME: what is wrong`. The gate
 shows that every edit is refused, proved from nothing. This makes one wrong program after the other in copies of the repository and has
 `rt dev` check the crate, which checks again only what that touches: each must be refused, and not because a proof no longer fits the code's
 form.
@@ -20,6 +20,8 @@ import tempfile
 ROOT = os.path.dirname(os.path.dirname(os.path.abspath(__file__)))
 # What the prover says where an edit changed the needs of a function, so that its proof file does not fit any more.
 UNFIT = "that can be named from here"
+# Said here where the check broke off without an error.
+NOTHING = "no error was printed"
 
 
 def wrong_programs(crate):
@@ -45,7 +47,7 @@ def check(copy, crate):
     """Whether the crate is proved, and the first thing that is wrong."""
     done = subprocess.run(["rt", "dev", crate], cwd=copy, capture_output=True, text=True)
     wrong = [line for line in (done.stdout + done.stderr).splitlines() if ": error:" in line or "not proved" in line]
-    return done.returncode == 0, wrong[0].replace(copy + "/", "") if wrong else "no error was printed"
+    return done.returncode == 0, wrong[0].replace(copy + "/", "") if wrong else NOTHING
 
 
 def check_wrong(copy, crate, pairs):
@@ -76,7 +78,7 @@ def try_crate(copies, crate):
         raise SystemExit(f"{crate} is not proved as it is")
     for name, pairs in wrong_programs(crate):
         proved, first = check_wrong(copy, crate, pairs)
-        verdict = "NOT REFUSED" if proved else "UNFIT" if UNFIT in first else "refused"
+        verdict = "NOT REFUSED" if proved else "UNFIT" if UNFIT in first or first == NOTHING else "refused"
         count, missed = count + 1, missed + (verdict != "refused")
         print(f"{crate}/{name}: {verdict} ({first[:110]})", flush=True)
     copies.put(copy)

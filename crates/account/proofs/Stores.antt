@@ -1,4 +1,4 @@
--- What the calls store: each mark as its two parts, an accepted call's facts, and the account that a call leaves. Assumes nothing.
+-- What the calls store (Account and its calls): each mark as its two parts, an accepted call's facts, and the account that a call leaves. Assumes nothing.
 use Prim.Native.Nat.{ℕ, zero, suc, _+_, _-_, _≤_, _<_}
 use native.Mathlib.Omega.{arith}
 use mathlib.Core.Path.{_≡_, refl, sym, ap, _∙_}

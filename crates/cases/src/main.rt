@@ -1,6 +1,7 @@
 // The example files (Case file): each file that an argument names, its name and then the text that `arvadush` prints for it.
 use libc::STDOUT_FILENO;
 use printing::print_case;
+use profile::Profile;
 
 // The name of a file, and its text.
 fn print_named(path: &[u8]) {
@@ -11,7 +12,10 @@ fn print_named(path: &[u8]) {
         os::fail(path);
         return;
     }
-    print_case(fd);
+    let mut weights = [0u32; Profile::SPAN];
+    let mut marks = [0u8; Profile::SPAN + 1];
+    let mut counts = [0u64; Profile::SPAN + 1];
+    print_case(fd, &mut weights, &mut marks, &mut counts);
     libc::close(fd);
 }
 

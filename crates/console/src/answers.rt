@@ -13,7 +13,7 @@ ghost use Rattle.script.specs.Input.{scriptMost, scriptOf};
 ghost use Rattle.session.specs.Lines.{session};
 ghost use Rattle.session.specs.Script.{fresh, scriptText};
 
-// The answers to what was read, which has room for one byte more than a script. No other function calls `answer`.
+// The answers to what was read, at most one byte more than a script can have. No other function calls `answer`.
 pub(crate) fn answer_read(
     input: Input,
     weights: &mut [u32],

@@ -38,7 +38,7 @@ pub(crate) fn print(input: &[u8], sent: Sent, piece: &[u8]) -> Sent
     counted(bytes, io::write_all(STDOUT_FILENO, piece))
 }
 
-// So many bytes handed to a write, the last of them with this answer.
+// So many bytes were handed to writes, and the last write answered `wrote`.
 fn counted(bytes: usize, wrote: bool) -> Sent
     ensures { λ r. ⌜ (r .bytes ≡ bytes) × (r .failed ≡ not wrote) ⌝ }
 {

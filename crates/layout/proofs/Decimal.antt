@@ -1,4 +1,4 @@
--- The decimal digits of a number: the fewest that hold it are as many as `digitCount` counts, at most 20 for 64 bits. Assumes nothing.
+-- The decimal digits of a number (Case file, the program's output): the fewest that hold it are as many as `digitCount` counts, at most 20 for 64 bits. Assumes nothing.
 use mathlib.Core.Path.{_≡_, refl, sym, ap, _∙_}
 use mathlib.Core.Bool.{Bool, true, false, cond}
 use mathlib.Core.List.{[], _∷_}

@@ -1,4 +1,4 @@
--- Texts laid out: two one after the other are their joined text, one at the start of a slice can be read there. Assumes nothing.
+-- Texts laid out (Case file, the program's output): two one after the other are their joined text, one at the start of a slice can be read there. Assumes nothing.
 use mathlib.Core.Path.{_≡_, refl, ap, _∙_}
 use mathlib.Core.List.{List, [], _∷_, _++_, append-assoc}
 use Prim.Native.Nat.{ℕ, suc, _+_, _≤_}

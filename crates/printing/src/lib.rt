@@ -9,17 +9,22 @@ use layout::TEXT_MOST;
 use profile::Profile;
 ghost use mathlib.Core.Path.{_≡_};
 ghost use lib.ListN.{length, take};
+ghost use Rattle.account.specs.Account.{account};
+ghost use Rattle.casefile.specs.Reader.{slicesAfter};
 ghost use Rattle.report.specs.Report.{fileText};
 
-// Prints the statement or the refusal of the case file that can be read here. Only a text that was handed to the write makes a `Printed`.
-pub fn print_case(fd: i32) -> Printed
+// Prints the statement or the refusal of the case file that is read from fd into these arrays. Only `print`, which writes, makes a `Printed`.
+pub fn print_case(
+    fd: i32,
+    weights: &mut [u32; Profile::SPAN],
+    marks: &mut [u8; Profile::SPAN + 1],
+    counts: &mut [u64; Profile::SPAN + 1],
+) -> Printed
     ensures { λ r. ⌜ r .bytes ≡ length (fileText (take (r .input .read) (r .input .buffer))) ⌝ }
+    ensures { λ r. ⌜ account (now (weights .exit)) (now (marks .exit)) (now (counts .exit)) ≡ slicesAfter (take (r .input .read) (r .input .buffer)) (account (now (weights .entry)) (now (marks .entry)) (now (counts .entry))) ⌝ }
 {
     let input = read(fd);
-    let mut weights = [0u32; Profile::SPAN];
-    let mut marks = [0u8; Profile::SPAN + 1];
-    let mut counts = [0u64; Profile::SPAN + 1];
     let mut text = [0u8; TEXT_MOST];
-    let n = input.case_text(&mut weights, &mut marks, &mut counts, &mut text);
+    let n = input.case_text(weights, marks, counts, &mut text);
     print(input, &text[..n])
 }

@@ -1,4 +1,4 @@
--- The range of values and weights over the whole table: a value lies between that with no share at the warm end of the
+-- The range of values and weights over the whole table (Profile value): a value lies between that with no share at the warm end of the
 -- temperatures and that with a whole share at the cold end, since a share is at most one and no line rises. Assumes nothing.
 use mathlib.Core.Path.{_≡_, refl}
 use mathlib.Core.Bool.{Bool, true, false, cond}

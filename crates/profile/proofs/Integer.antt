@@ -1,4 +1,4 @@
--- Integers by their two parts, so that `omega` can be handed facts of them: x is `above x` less `below x`, and one of the two is 0.
+-- Integers by their two parts (Profile value), so that `omega` can be handed facts of them: x is `above x` less `below x`, and one of the two is 0.
 -- Sum, product, order and floor in these parts, and when a sum or a product fits a width. Assumes nothing.
 use mathlib.Core.Path.{_≡_, _∙_, refl, ap}
 use mathlib.Core.Bool.{Bool, true, false, not, cond}

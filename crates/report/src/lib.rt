@@ -1,4 +1,4 @@
-// The text that a case file comes to (Case file, the program's output).
+// The text of a case file: its statement or its refusal (Case file, the program's output).
 use casefile::CaseAnswer;
 use casefile::read_case;
 use layout::account_text;

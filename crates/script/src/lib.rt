@@ -113,7 +113,7 @@ pub(crate) fn mean(word: &[u8]) -> Hundredths
     Hundredths::Mean(n as i16)
 }
 
-// By way of n - 1, since 32,768 itself has no place in 16 bits.
+// By way of n - 1, since an i16 does not hold 32,768.
 fn negative(n: u64) -> i16
     requires { ⌜ n ≤ 32768 ⌝ }
     ensures { λ r. ⌜ r ≡ negℤ (pos n) ⌝ }

@@ -1,4 +1,4 @@
--- Every script runs to its end, in a slice that can hold the longest answer. Assumes nothing.
+-- Every script runs to its end, in a slice that can hold the longest answer (docs/GUIDE.md, The console). Assumes nothing.
 use Prim.Native.Nat.{ℕ, zero, suc, _+_, _≤_}
 use mathlib.Core.Path.{refl, sym}
 use mathlib.Core.List.{List, [], _∷_}

@@ -1,4 +1,4 @@
--- What a run's contract comes to, and that runs one after the other print a script's text. Assumes nothing.
+-- What a run's contract comes to, and that runs one after the other print a script's text (docs/GUIDE.md, The console). Assumes nothing.
 use Prim.Native.Nat.{ℕ, _+_, _-_, _≤_, _<_}
 use mathlib.Core.Path.{_≡_, refl, sym, ap, ap₂, _∙_}
 use mathlib.Core.Bool.{Bool, true, false, cond}

@@ -1,4 +1,4 @@
--- What opening an account over weights answers and leaves in the buffers. Assumes nothing.
+-- What opening an account over weights answers and leaves in the buffers (docs/GUIDE.md, The console). Assumes nothing.
 use Prim.Native.Nat.{ℕ, _+_, _-_, _≤_, _<_, min}
 use mathlib.Core.Path.{_≡_, refl, sym, ap, _∙_}
 use mathlib.Core.Bool.{Bool, true, false, cond, and-false}

@@ -1,4 +1,4 @@
--- The parts of a session's buffers that a call is lent, and the buffers when they come back. Assumes nothing.
+-- The parts of a session's buffers that a call is lent, and the buffers when they come back (docs/GUIDE.md, The console). Assumes nothing.
 use Prim.Native.Nat.{ℕ, zero, suc, _+_, _≤_, _<_, min}
 use mathlib.Core.Path.{_≡_, refl, sym, ap, _∙_}
 use mathlib.Core.List.{List, [], _∷_, _++_, append-assoc}

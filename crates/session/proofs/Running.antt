@@ -1,4 +1,4 @@
--- A script's lines from an offset on, and answers gathered one after the other. Assumes nothing.
+-- A script's lines from an offset on, and answers gathered one after the other (docs/GUIDE.md, The console). Assumes nothing.
 use Prim.Native.Nat.{ℕ, suc, _+_, _-_, _≤_, _<_}
 use mathlib.Core.Path.{_≡_, refl, sym, ap, ap₂, subst, _∙_}
 use mathlib.Core.Bool.{Bool, true, false, cond, _&&_}

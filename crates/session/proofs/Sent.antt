@@ -1,4 +1,4 @@
--- A script's text sent piece by piece, each what a run wrote. Assumes nothing.
+-- A script's text sent piece by piece, each what a run wrote (docs/GUIDE.md, The console). Assumes nothing.
 use Prim.Native.Nat.{ℕ, _+_, _*_, _≤_}
 use mathlib.Core.Path.{_≡_, sym, ap, _∙_}
 use mathlib.Core.Bool.{Bool, true, false, cond}

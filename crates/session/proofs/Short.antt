@@ -1,4 +1,4 @@
--- No answer of a line is longer than `textMost`. Assumes nothing.
+-- No answer of a line is longer than `textMost` (docs/GUIDE.md, The console). Assumes nothing.
 use Prim.Native.Nat.{ℕ, _≤_}
 use mathlib.Core.Bool.{Bool, true, false, cond}
 use mathlib.Core.List.{List}

@@ -1,4 +1,4 @@
--- What a line says and does, once its command is known. Assumes nothing.
+-- What a line says and does, once its command is known (docs/GUIDE.md, The console). Assumes nothing.
 use Prim.Native.Nat.{ℕ}
 use mathlib.Core.Path.{_≡_, ap₂, subst⁻¹, _∙_}
 use mathlib.Core.Bool.{cond}

@@ -1,4 +1,4 @@
--- Numbers as they are printed (Case file) and as the console reads them.
+-- Numbers as they are printed (Case file) and as the console reads them (docs/GUIDE.md, The console).
 use Prim.Native.Nat.{ℕ, _≤_}
 use mathlib.Core.Path.{_≡_}
 use Rattle.layout.specs.Text.{decimal}

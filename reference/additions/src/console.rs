@@ -1,7 +1,7 @@
 //! The console, no part of the paper, over section "Account and its calls": a script of calls in, their answers out.
 
 use model::statement::{refusal_text, text};
-use model::{account, statement, value, Answer, Boundary, Mean, ProfileNumber, Weekday, DONE, LARGEST_BOUNDARY};
+use model::{account, statement, value, Answer, Boundary, Mean, ProfileNumber, Weekday, DONE};
 
 pub const MOST_BYTES: usize = 65_536;
 
@@ -35,10 +35,6 @@ fn mean(word: &str) -> Option<Mean> {
     }
 }
 
-fn boundary(word: &str) -> Option<Boundary> {
-    number(word).filter(|k| *k <= LARGEST_BOUNDARY)
-}
-
 fn parse(line: &str) -> Option<Line> {
     let words: Vec<&str> = line.split(' ').collect();
     Some(match words[..] {
@@ -46,10 +42,10 @@ fn parse(line: &str) -> Option<Line> {
         ["days", profile, weekday, ref rest @ ..] => {
             Line::Days(number(profile)?, number(weekday)?, rest.iter().map(|word| mean(word)).collect::<Option<_>>()?)
         }
-        ["reading", k, count] => Line::Reading(boundary(k)?, number(count)?),
-        ["withdraw", k] => Line::Withdraw(boundary(k)?),
-        ["cut", k] => Line::Cut(boundary(k)?),
-        ["uncut", k] => Line::Uncut(boundary(k)?),
+        ["reading", k, count] => Line::Reading(number(k)?, number(count)?),
+        ["withdraw", k] => Line::Withdraw(number(k)?),
+        ["cut", k] => Line::Cut(number(k)?),
+        ["uncut", k] => Line::Uncut(number(k)?),
         ["statement"] => Line::Statement,
         _ => return None,
     })

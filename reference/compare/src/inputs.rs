@@ -4,7 +4,7 @@ use crate::checks::{Account, File, Input, Outputs};
 use crate::random::Random;
 use additions::console::MOST_BYTES;
 use model::history::Call;
-use model::{Boundary, Mean, ProfileNumber, Weekday, LARGEST_BOUNDARY};
+use model::{Boundary, Mean, ProfileNumber, Weekday};
 
 const LIMIT: u64 = 2_000_000_000;
 
@@ -204,8 +204,7 @@ fn boundary(random: &mut Random, n: usize) -> Boundary {
         return random.length(0, n);
     }
     let k = random.length(0, n);
-    let above = random.pick(&[n + 1, n + 2, 256 + k, 65_536 + k, (1 << 32) + k, (1 << 63) + k, LARGEST_BOUNDARY]);
-    above.min(LARGEST_BOUNDARY)
+    random.pick(&[n + 1, n + 2, 256 + k, 65_536 + k, (1 << 32) + k, (1 << 63) + k, Boundary::MAX])
 }
 
 /// A count near those of the account, or any.

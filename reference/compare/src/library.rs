@@ -4,7 +4,8 @@ use additions::texts::{lay_out, statement_text};
 use model::{account, casefile, customer, statement, temperature, value};
 use model::{Answer, Boundary, Mean, ProfileNumber, Weekday};
 
-/// One method for each exported call; the answer is the table's number and place. The two printed texts are the model's unless given.
+/// One method for each exported call; the answer is the table's number and place. The two texts in a lent buffer
+/// are those of `additions` unless given.
 pub trait Library {
     fn name(&self) -> &'static str;
     fn temperature(&self, a: Mean, b: Mean, c: Mean, d: Mean) -> (Answer, Mean);

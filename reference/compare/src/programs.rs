@@ -1,4 +1,5 @@
-//! Sections "Case file" and "Account and its calls": the two built programs against the text that the model gives.
+//! Sections "Case file" and "Account and its calls": the two built programs against the texts that the model
+//! and its additions give.
 
 use crate::inputs;
 use crate::random::Random;
@@ -21,7 +22,7 @@ fn output(program: &str, input: &[u8]) -> Vec<u8> {
     output.stdout
 }
 
-/// Runs a program on generated inputs and reports where it prints something else than the model.
+/// Runs a program on generated inputs and reports where it prints something else than these.
 fn compare(
     program: &str,
     runs: u64,

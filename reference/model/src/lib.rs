@@ -12,9 +12,8 @@ pub mod value;
 
 /// A daily mean or a temperature, in hundredths of a degree C (section "Temperature of a day").
 pub type Mean = i16;
-/// A boundary (section "Account and its calls") as the caller passes it, and the largest that a caller can pass.
+/// A boundary (section "Account and its calls") as the caller passes it.
 pub type Boundary = usize;
-pub const LARGEST_BOUNDARY: Boundary = Boundary::MAX;
 /// The number of a profile, and a weekday (section "Profiles"), as the caller passes them.
 pub type ProfileNumber = u8;
 pub type Weekday = u8;

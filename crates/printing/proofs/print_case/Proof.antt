@@ -1,6 +1,7 @@
--- `printing::print_case` prints the text of what it read: the buffers have the lengths that the reader asks, and no text fills the last. Assumes nothing.
-use mathlib.Core.Path.{refl, sym}
+-- `printing::print_case` prints the text of what it read: the arrays have the lengths that the reader asks, and no text fills the buffer. Assumes nothing.
+use mathlib.Core.Path.{_≡_, sym}
 use native.Mathlib.Omega.{arith}
+use lib.ListN.{length}
 use lib.Seq.{length-take-le}
 use borrow.Author.Needs.{needs}
 use Rattle.report.proofs.Printed.{prints-file}
@@ -13,15 +14,6 @@ read-requires c κs = search needs
 slice-aggregate-case-text : tie.Need-slice-aggregate-case-text
 slice-aggregate-case-text c = search needs
 
-slice-aggregate-case-text-2 : tie.Need-slice-aggregate-case-text-2
-slice-aggregate-case-text-2 c = search needs
-
-slice-aggregate-case-text-3 : tie.Need-slice-aggregate-case-text-3
-slice-aggregate-case-text-3 c = search needs
-
-slice-aggregate-case-text-4 : tie.Need-slice-aggregate-case-text-4
-slice-aggregate-case-text-4 c = search needs
-
 case-text-requires : tie.Need-case-text-requires
 case-text-requires c κs = search needs
 
@@ -32,22 +24,17 @@ slice-aggregate-print : tie.Need-slice-aggregate-print
 slice-aggregate-print c = sym (length-take-le _ _ (omega arith))
 
 print-requires : tie.Need-print-requires
-print-requires c κs = prints-file _ _ _ _ _ _ _ (c .before .before .before .before .before .case-text .ensures) refl (omega arith)
+print-requires c κs =
+    let start = c .before .before .before .before .before .before .before .before .args in
+    let w : length (start .weights .now) ≡ 1096 = omega arith in
+    let m : length (start .marks .now) ≡ 1097 = omega arith in
+    let n : length (start .counts .now) ≡ 1097 = omega arith in
+    prints-file _ _ _ _ _ _ _ (c .before .before .case-text .ensures) (simp (w, m, n)) (omega arith)
 
 returns : tie.Need-returns
-returns c = search needs
+returns c = (c .print .ensures .1, rw (c .print .ensures .0) (c .before .before .before .case-text .ensures .writes))
 
 pub print-case-spec : {M : Type 1} → statement M
 print-case-spec =
     tie.close
-    (tie.spec
-    read-requires
-    slice-aggregate-case-text
-    slice-aggregate-case-text-2
-    slice-aggregate-case-text-3
-    slice-aggregate-case-text-4
-    case-text-requires
-    array-share-prefix-text
-    slice-aggregate-print
-    print-requires
-    returns)
+    (tie.spec read-requires slice-aggregate-case-text case-text-requires array-share-prefix-text slice-aggregate-print print-requires returns)
