@@ -15,7 +15,7 @@ use table::reading_answer;
 use table::uncut_answer;
 use table::withdraw_answer;
 ghost use mathlib.Core.Path.{_≡_};
-ghost use Rattle.account.specs.Account.{account};
+ghost use Rattle.account.specs.Account.{account, energyMost};
 ghost use Rattle.account.specs.Calls.{number, OpenMet, ReadingMet, WithdrawMet, CutMet, UncutMet, CheckMet, GoodWeightsMet};
 
 // What a call answers: done, or a row of the table.
@@ -101,6 +101,7 @@ pub fn uncut(weights: &[u32], marks: &mut [u8], counts: &[u64], k: usize) -> Ans
 // The rows that every call but open checks first: 3, 5, or 0 for neither.
 pub fn check(weights: &[u32], marks: &[u8], counts: &[u64]) -> u8
     ensures { λ r. ⌜ CheckMet (account (now (weights .entry)) (now (marks .entry)) (now (counts .entry))) r (account (now (weights .exit)) (now (marks .exit)) (now (counts .exit))) ⌝ }
+    ensures { λ r. do ⌜ (← ⟦ENERGY_MOST⟧ .entry) ≡ energyMost ⌝ }
 {
     if unfit(weights.len(), marks.len(), counts.len()) {
         return 3;

@@ -8,6 +8,7 @@ use returned::temperature_value;
 use returned::value_high;
 use returned::value_low;
 use returned::value_number;
+use returned::value_place;
 ghost use Rattle.account.specs.Account.{account};
 ghost use Rattle.statement.specs.Parts.{outputs};
 ghost use Rattle.layout.specs.Text.{LaidOut, TextMet, statementText, refusalText};
@@ -91,7 +92,7 @@ pub extern "C" fn arvadush_value(profile: u8, t: i16) -> Values
     let answer = profile::value(profile, t);
     Values {
         number: value_number(answer),
-        place: 0,
+        place: value_place(answer),
         low: value_low(answer),
         high: value_high(answer),
     }

@@ -8,7 +8,7 @@ use statement::StatementAnswer;
 use weights::TemperatureAnswer;
 use weights::WeightsAnswer;
 ghost use mathlib.Core.Path.{_≡_};
-ghost use Rattle.profile.specs.Answers.{valueAnswered, lowGiven, highGiven, weightAnswered, weightGiven};
+ghost use Rattle.profile.specs.Answers.{valueAnswered, valuePlaced, lowGiven, highGiven, weightAnswered, weightPlaced, weightGiven};
 ghost use Rattle.ffi.specs.Calls.{outcomeOf};
 ghost use Rattle.weights.specs.Temperature as four;
 ghost use Rattle.weights.specs.Weights as span;
@@ -49,7 +49,17 @@ pub(crate) fn value_number(answer: ValueAnswer) -> u8
     match answer {
         ValueAnswer::Value { low: _, high: _ } => 0,
         ValueAnswer::NoProfile => 1,
-        ValueAnswer::OutOfRange => 4,
+        ValueAnswer::OutOfRange(_) => 4,
+    }
+}
+
+pub(crate) fn value_place(answer: ValueAnswer) -> usize
+    ensures { λ r. ⌜ r ≡ valuePlaced answer ⌝ }
+{
+    match answer {
+        ValueAnswer::Value { low: _, high: _ } => 0,
+        ValueAnswer::NoProfile => 0,
+        ValueAnswer::OutOfRange(k) => k as usize,
     }
 }
 
@@ -59,7 +69,7 @@ pub(crate) fn value_low(answer: ValueAnswer) -> i64
     match answer {
         ValueAnswer::Value { low, high: _ } => low,
         ValueAnswer::NoProfile => 0,
-        ValueAnswer::OutOfRange => 0,
+        ValueAnswer::OutOfRange(_) => 0,
     }
 }
 
@@ -69,12 +79,12 @@ pub(crate) fn value_high(answer: ValueAnswer) -> i64
     match answer {
         ValueAnswer::Value { low: _, high } => high,
         ValueAnswer::NoProfile => 0,
-        ValueAnswer::OutOfRange => 0,
+        ValueAnswer::OutOfRange(_) => 0,
     }
 }
 
 pub(crate) fn weight(answer: WeightAnswer) -> Outcome
-    ensures { λ r. ⌜ r ≡ outcomeOf (weightAnswered answer) 0 (weightGiven answer) ⌝ }
+    ensures { λ r. ⌜ r ≡ outcomeOf (weightAnswered answer) (weightPlaced answer) (weightGiven answer) ⌝ }
 {
     match answer {
         WeightAnswer::Weight(w) => Outcome {
@@ -92,9 +102,9 @@ pub(crate) fn weight(answer: WeightAnswer) -> Outcome
             place: 0,
             value: 0,
         },
-        WeightAnswer::OutOfRange => Outcome {
+        WeightAnswer::OutOfRange(k) => Outcome {
             number: 4,
-            place: 0,
+            place: k as usize,
             value: 0,
         },
     }

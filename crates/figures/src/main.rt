@@ -112,7 +112,7 @@ fn value(profile: u8, t: i16) {
     match profile::value(profile, t) {
         ValueAnswer::Value { low, high } => bounds(low, high),
         ValueAnswer::NoProfile => refused(1),
-        ValueAnswer::OutOfRange => refused(4),
+        ValueAnswer::OutOfRange(_) => refused(4),
     }
     end_line();
 }
@@ -161,7 +161,7 @@ fn near() {
     match profile::value(3, 800) {
         ValueAnswer::Value { low, high } => yes_or_no(near_one(low, high)),
         ValueAnswer::NoProfile => refused(1),
-        ValueAnswer::OutOfRange => refused(4),
+        ValueAnswer::OutOfRange(_) => refused(4),
     }
     end_line();
 }

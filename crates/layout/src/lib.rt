@@ -16,7 +16,7 @@ ghost use Rattle.account.specs.Account.{energyMost, account};
 ghost use Rattle.statement.specs.Parts.{outputs};
 ghost use Rattle.statement.specs.Shares.{total};
 ghost use Rattle.layout.specs.Text.{LaidOut, TextMet, statementText, refusalText, doneText, unknownText, lineOf, partLines, partsText};
-ghost use Rattle.layout.specs.Accounts.{accountText, answeredText};
+ghost use Rattle.layout.specs.Accounts.{accountText, answeredText, textMost};
 
 // No text of a statement or a refusal is longer.
 pub const TEXT_MOST: usize = 72_390;
@@ -141,6 +141,7 @@ fn lines(from: &[u16], to: &[u16], wh: &[u64], parts: usize, out: &mut [u8], at:
 // The statement of an account or its refusal, at the start of out.
 pub fn account_text(weights: &[u32], marks: &[u8], counts: &[u64], out: &mut [u8]) -> usize
     ensures { λ r. ⌜ TextMet (accountText (account (now (weights .entry)) (now (marks .entry)) (now (counts .entry)))) (now (out .entry)) r (now (out .exit)) (account (now (weights .entry)) (now (marks .entry)) (now (counts .entry))) (account (now (weights .exit)) (now (marks .exit)) (now (counts .exit))) ⌝ }
+    ensures { λ r. do ⌜ (← ⟦TEXT_MOST⟧ .entry) ≡ textMost ⌝ }
 {
     if Profile::SPAN < weights.len() {
         return refusal_text(3, 0, out);

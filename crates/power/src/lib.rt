@@ -6,7 +6,7 @@ pub use ladder::Bounds;
 pub use rounded::ONE;
 use rounded::Rounding;
 ghost use mathlib.Core.Path.{_≡_};
-ghost use Rattle.power.specs.Power.{lowerOf, upperOf, BoundsMet};
+ghost use Rattle.power.specs.Power.{one, lowerOf, upperOf, BoundsMet};
 
 // The power of n / m rounded down, its exponent c in ten-millionths; 0 where n / m is no ratio at most one.
 pub fn lower(n: u32, m: u32, c: u32) -> u64
@@ -25,6 +25,7 @@ pub fn upper(n: u32, m: u32, c: u32) -> u64
 // Both, which enclose the exact power.
 pub fn bounds(n: u32, m: u32, c: u32) -> Bounds
     ensures { λ r. ⌜ BoundsMet n m c (r .low) (r .high) ⌝ }
+    ensures { λ r. do ⌜ (← ⟦ONE⟧ .entry) ≡ one ⌝ }
 {
     Bounds {
         low: lower(n, m, c),

@@ -45,24 +45,30 @@ valueNumber k t =
     (row (not (inRange t)) 4  -- first mean out of range
     0)
 
--- the paper's number of an answer, and its low and high value; "The index of 4 is 0 for one temperature", so that no answer has one
+-- the paper's number of an answer, its index, and its low and high value
 abbrev pub valueAnswered : ValueAnswer → ℕ
 valueAnswered (Valued.Value low high) = 0
 valueAnswered Valued.NoProfile = 1
-valueAnswered Valued.OutOfRange = 4
+valueAnswered (Valued.OutOfRange k) = 4
+
+abbrev pub valuePlaced : ValueAnswer → ℕ
+valuePlaced (Valued.Value low high) = 0
+valuePlaced Valued.NoProfile = 0
+valuePlaced (Valued.OutOfRange k) = k
 
 abbrev pub lowGiven : ValueAnswer → ℤ
 lowGiven (Valued.Value low high) = low
 lowGiven Valued.NoProfile = pos 0
-lowGiven Valued.OutOfRange = pos 0
+lowGiven (Valued.OutOfRange k) = pos 0
 
 abbrev pub highGiven : ValueAnswer → ℤ
 highGiven (Valued.Value low high) = high
 highGiven Valued.NoProfile = pos 0
-highGiven Valued.OutOfRange = pos 0
+highGiven (Valued.OutOfRange k) = pos 0
 
 pub record ValueMet (k : ℕ) (t : ℤ) (r : ValueAnswer) : Type 0 where
   pub answers : valueAnswered r ≡ valueNumber k t
+  pub places : valuePlaced r ≡ 0
   pub low : lowGiven r ≡ ifDone (valueNumber k t) (valueLow (profileOf k) t) (pos 0)
   pub high : highGiven r ≡ ifDone (valueNumber k t) (valueHigh (profileOf k) t) (pos 0)
   pub powers-enclose : valueNumber k t ≡ 0 → EnclosedPower (profileOf k) t
@@ -75,21 +81,28 @@ weightNumber k weekday t =
     (row (not (inRange t)) 4  -- first mean out of range
     0))
 
--- the paper's number of an answer, and its weight; no answer has an index
+-- the paper's number of an answer, its index, and its weight
 abbrev pub weightAnswered : WeightAnswer → ℕ
 weightAnswered (Weighed.Weight w) = 0
 weightAnswered Weighed.NoProfile = 1
 weightAnswered Weighed.NoWeekday = 2
-weightAnswered Weighed.OutOfRange = 4
+weightAnswered (Weighed.OutOfRange k) = 4
+
+abbrev pub weightPlaced : WeightAnswer → ℕ
+weightPlaced (Weighed.Weight w) = 0
+weightPlaced Weighed.NoProfile = 0
+weightPlaced Weighed.NoWeekday = 0
+weightPlaced (Weighed.OutOfRange k) = k
 
 abbrev pub weightGiven : WeightAnswer → ℕ
 weightGiven (Weighed.Weight w) = w
 weightGiven Weighed.NoProfile = 0
 weightGiven Weighed.NoWeekday = 0
-weightGiven Weighed.OutOfRange = 0
+weightGiven (Weighed.OutOfRange k) = 0
 
 pub record WeightMet (k weekday : ℕ) (t : ℤ) (r : WeightAnswer) : Type 0 where
   pub answers : weightAnswered r ≡ weightNumber k weekday t
+  pub places : weightPlaced r ≡ 0
   pub gives : weightGiven r ≡ ifDone (weightNumber k weekday t) (weightOf k weekday t) 0
   pub floored : weightNumber k weekday t ≡ 0 → floorWeight k weekday t ≡ pos (weightGiven r)
   pub least : weightNumber k weekday t ≡ 0 → weightLeast ≤ weightGiven r

@@ -25,19 +25,19 @@ pub struct Numbered {
     pub profile: Profile,
 }
 
-// The profile value (h value) in units of 10^-9, or the row that declines it: 1, 4.
+// The profile value (h value) in units of 10^-9, or the row that declines it: 1, or 4 with its index.
 pub enum ValueAnswer {
     Value { low: i64, high: i64 },
     NoProfile,
-    OutOfRange,
+    OutOfRange(u8),
 }
 
-// A day's weight (h value times weekday factor) in millionths, or the row that declines it: 1, 2, 4.
+// A day's weight (h value times weekday factor) in millionths, or the row that declines it: 1, 2, or 4 with its index.
 pub enum WeightAnswer {
     Weight(u32),
     NoProfile,
     NoWeekday,
-    OutOfRange,
+    OutOfRange(u8),
 }
 
 const NO_PROFILE: Profile = Profile {
@@ -108,7 +108,7 @@ pub fn value(profile: u8, t: i16) -> ValueAnswer
             high: v.high,
         };
     }
-    ValueAnswer::OutOfRange
+    ValueAnswer::OutOfRange(0)
 }
 
 // The weight of one day.
@@ -124,5 +124,5 @@ pub fn day_weight(profile: u8, weekday: u8, t: i16) -> WeightAnswer
     if in_range(t) {
         return WeightAnswer::Weight(curve::weight_at(profile, weekday, t));
     }
-    WeightAnswer::OutOfRange
+    WeightAnswer::OutOfRange(0)
 }

@@ -12,7 +12,7 @@ ghost use Prim.Native.Nat.{_≤_};
 ghost use lib.IntN.{pos, negℤ};
 ghost use Rattle.script.specs.Numbers.{numberOf, meanOf, Listed};
 ghost use Rattle.script.specs.Calls.{commandOf, weightsIn, meansIn};
-ghost use Rattle.script.specs.Input.{wholeLines};
+ghost use Rattle.script.specs.Input.{scriptMost, wholeLines};
 
 // The longest script.
 pub const SCRIPT_MOST: usize = 65_536;
@@ -50,6 +50,7 @@ pub enum Command {
 // How much of an input is run as a script: all of it, or of one that is too long the lines that end within the longest script.
 pub fn whole_lines(input: &[u8]) -> usize
     ensures { λ r. ⌜ ReadOff (wholeLines (now (input .entry))) r (now (input .entry)) (now (input .exit)) ⌝ }
+    ensures { λ r. do ⌜ (← ⟦SCRIPT_MOST⟧ .entry) ≡ scriptMost ⌝ }
 {
     if input.len() <= SCRIPT_MOST {
         return input.len();

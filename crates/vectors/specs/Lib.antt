@@ -1,2 +1,3 @@
 -- What vectors states (Starred cases).
 pub mod Starred
+pub mod Near

@@ -51,6 +51,6 @@ fn weight_at(profile: u8, weekday: u8, t: i16) -> u32
         WeightAnswer::Weight(w) => w,
         WeightAnswer::NoProfile => 0,
         WeightAnswer::NoWeekday => 0,
-        WeightAnswer::OutOfRange => 0,
+        WeightAnswer::OutOfRange(_) => 0,
     }
 }

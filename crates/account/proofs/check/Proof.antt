@@ -3,7 +3,7 @@ use Prim.Native.Nat.{ℕ}
 use mathlib.Core.Path.{_≡_, refl, sym, _∙_}
 use mathlib.Core.Bool.{true, false}
 use borrow.Author.Tests.{not-true, not-false}
-use Rattle.account.specs.Account.{Account, account, unfit, goodWeights}
+use Rattle.account.specs.Account.{Account, account, unfit, goodWeights, energyMost}
 use Rattle.account.specs.Refusals.{accountRows}
 use Rattle.account.specs.Calls.{CheckMet}
 use Rattle.account.specs.Slices.{goodBoundaries}
@@ -15,9 +15,9 @@ use Rattle.account.proofs.check.Tie as tie
 abbrev lent : tie.Start → Account
 lent c = account (c .args .weights .now) (c .args .marks .now) (c .args .counts .now)
 
--- the number that the rows give
-tells : (a : Account) (n : ℕ) → accountRows a 0 ≡ n → CheckMet a n a
-tells a n e = record { answers = sym e; stays = refl }
+-- the number that the rows give, and the limit
+tells : (a : Account) (n : ℕ) → accountRows a 0 ≡ n → CheckMet a n a × (energyMost ≡ 2_000_000_000)
+tells a n e = (record { answers = sym e; stays = refl }, refl)
 
 -- what is known after each test that was not taken
 fits : (c : tie.Else1) → unfit (lent (c .before .before .before .before .before)) ≡ false

@@ -1,5 +1,5 @@
 -- `ffi::arvadush_value` meets its contract, which is that of `profile::value` at its answer's numbers. Assumes nothing.
-use mathlib.Core.Path.{refl, _∙_}
+use mathlib.Core.Path.{_∙_}
 use borrow.Author.Needs.{needs, sfits-of}
 use mir.Facts.{toZ-ofZ}
 use Rattle.ffi.proofs.arvadush_value.Statement.{statement}
@@ -11,6 +11,9 @@ value-requires c κs = search needs
 value-number-requires : tie.Need-value-number-requires
 value-number-requires c κs = search needs
 
+value-place-requires : tie.Need-value-place-requires
+value-place-requires c κs = search needs
+
 value-low-requires : tie.Need-value-low-requires
 value-low-requires c κs = search needs
 
@@ -19,11 +22,11 @@ value-high-requires c κs = search needs
 
 returns : tie.Need-returns
 returns c =
-    let start = c .before .before .before .before in
-    let met = simp (toZ-ofZ (start .fits .t)) at (c .before .before .before .value .ensures) in
+    let start = c .before .before .before .before .before in
+    let met = simp (toZ-ofZ (start .fits .t)) at (c .before .before .before .before .value .ensures) in
     record {
-      answers = c .before .before .value-number .ensures ∙ met .answers;
-      places = refl;
+      answers = c .before .before .before .value-number .ensures ∙ met .answers;
+      places = c .before .before .value-place .ensures ∙ met .places;
       low = toZ-ofZ (sfits-of (c .before .value-low .ok)) ∙ c .before .value-low .ensures ∙ met .low;
       high = toZ-ofZ (sfits-of (c .value-high .ok)) ∙ c .value-high .ensures ∙ met .high;
       powers-enclose = met .powers-enclose;
@@ -31,4 +34,4 @@ returns c =
 
 pub arvadush-value-spec : {M : Type 1} → statement M
 arvadush-value-spec =
-    tie.close (tie.spec value-requires value-number-requires value-low-requires value-high-requires returns)
+    tie.close (tie.spec value-requires value-number-requires value-place-requires value-low-requires value-high-requires returns)

@@ -18,7 +18,7 @@ returns c =
     let a = c .before .before .before .before .before .before .before .before .before .args in
     let b = account (a .weights .now) (a .marks .now) (a .counts .now) in
     let says = refusal-says b 3 (too-long b (c .before .before .before .before .if1 .taken)) (λ e. omega arith) in
-    rw says (record { prints = c .before .before .refusal-text .ensures; stays = refl })
+    (rw says (record { prints = c .before .before .refusal-text .ensures; stays = refl }), refl)
 
 slice-aggregate-with-outputs : tie.Need-slice-aggregate-with-outputs
 slice-aggregate-with-outputs c = search needs
@@ -36,7 +36,7 @@ same-length-2 : tie.Need-same-length-2
 same-length-2 c = search needs
 
 returns-2 : tie.Need-returns-2
-returns-2 c = record { prints = c .before .before .before .before .before .with-outputs .ensures; stays = refl }
+returns-2 c = (record { prints = c .before .before .before .before .before .with-outputs .ensures; stays = refl }, refl)
 
 pub account-text-spec : {M : Type 1} → statement M
 account-text-spec =

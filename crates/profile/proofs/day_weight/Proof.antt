@@ -9,7 +9,7 @@ use lib.Dec.{eqb·suc-zero}
 use lib.IntN.{ℤ}
 use mir.Facts.{toZ-ofZ}
 use Rattle.profile.specs.Limits.{inRange}
-use Rattle.profile.specs.Answers.{weightNumber, weightAnswered, weightGiven, WeightMet}
+use Rattle.profile.specs.Answers.{weightNumber, weightAnswered, weightPlaced, weightGiven, WeightMet}
 use Rattle.profile.specs.declared.WeightAnswer.{WeightAnswer}
 use Rattle.profile.specs.declared.WeightAnswer.the-variants.{NoProfile, NoWeekday, OutOfRange}
 use Rattle.profile.proofs.Bounds.{whole-table}
@@ -17,10 +17,17 @@ use Rattle.profile.proofs.day_weight.Statement.{statement}
 use Rattle.profile.proofs.day_weight.Tie as tie
 
 -- an answer that gives no weight, where a row's number says so
-declined : {k w : ℕ} {t : ℤ} (r : WeightAnswer) (n : ℕ) → weightNumber k w t ≡ suc n → weightAnswered r ≡ suc n → weightGiven r ≡ 0 → WeightMet k w t r
-declined {k} {w} {t} r n e f g =
+declined :
+    {k w : ℕ} {t : ℤ} (r : WeightAnswer) (n : ℕ)
+    → weightNumber k w t ≡ suc n
+    → weightAnswered r ≡ suc n
+    → weightPlaced r ≡ 0
+    → weightGiven r ≡ 0
+    → WeightMet k w t r
+declined {k} {w} {t} r n e f p g =
     record {
       answers = f ∙ sym e;
+      places = p;
       gives = rw (e, eqb·suc-zero n) g;
       floored = rw e (λ z. absurd (omega arith));
       least = rw e (λ z. absurd (omega arith));
@@ -29,12 +36,12 @@ declined {k} {w} {t} r n e f g =
 
 -- row 1
 returns : tie.Need-returns
-returns c = declined NoProfile 0 (simp (le-leb _ _ (c .if1 .taken))) refl refl
+returns c = declined NoProfile 0 (simp (le-leb _ _ (c .if1 .taken))) refl refl refl
 
 -- row 2
 returns-2 : tie.Need-returns-2
 returns-2 c =
-    declined NoWeekday 1 (simp (lt-leb _ _ (c .before .if1 .left), lt-ltb 6 (c .before .before .args .weekday) (omega arith))) refl refl
+    declined NoWeekday 1 (simp (lt-leb _ _ (c .before .if1 .left), lt-ltb 6 (c .before .before .args .weekday) (omega arith))) refl refl refl
 
 in-range-requires : tie.Need-in-range-requires
 in-range-requires c κs = search needs
@@ -60,6 +67,7 @@ returns-3 c =
     let known = whole-table (q .args .profile) (q .args .weekday) (q .args .t) profile (omega arith) range in
     record {
       answers = simp (lt-leb _ _ profile, le-ltb _ _ weekday, range);
+      places = refl;
       gives = simp (lt-leb _ _ profile, le-ltb _ _ weekday, range) e;
       floored = λ z. rw e (known .0);
       least = λ z. rw e (known .1);
@@ -69,12 +77,13 @@ returns-3 c =
 -- row 4
 returns-4 : tie.Need-returns-4
 returns-4 c =
-    declined OutOfRange 3
+    declined (OutOfRange 0) 3
     (simp (
       lt-leb _ _ (c .before .before .before .if1 .left),
       le-ltb _ _ (c .before .before .if2 .left),
       sym (inside (c .before)) ∙ c .if3 .left,
     ))
+    refl
     refl
     refl
 

@@ -1,6 +1,6 @@
 -- `profile::value` meets its contract: its tests are those of the rows, in their order.
 -- Assumes nothing.
-use mathlib.Core.Path.{_≡_, sym, _∙_}
+use mathlib.Core.Path.{_≡_, refl, sym, _∙_}
 use native.Mathlib.Omega.{arith}
 use borrow.Author.Needs.{needs}
 use borrow.Author.Tests.{le-leb, lt-leb}
@@ -18,6 +18,7 @@ returns c =
     let test = le-leb _ _ (c .if1 .taken) in
     record {
       answers = simp test;
+      places = refl;
       low = simp test;
       high = simp test;
       powers-enclose = simp test (λ e. absurd (omega arith));
@@ -47,6 +48,7 @@ returns-2 c =
     let v = simp (toZ-ofZ (q .fits .t)) at (c .before .values-at .ensures) in
     record {
       answers = simp (test, range);
+      places = refl;
       low = simp (test, range, v .low-is) (toZ-ofZ (low-fits k t known range));
       high = simp (test, range, v .high-is) (toZ-ofZ (high-fits k t known range));
       powers-enclose = λ e. enclosed (profileOf k) t range;
@@ -59,6 +61,7 @@ returns-3 c =
     let range = sym (inside (c .before)) ∙ c .if2 .left in
     record {
       answers = simp (test, range);
+      places = refl;
       low = simp (test, range);
       high = simp (test, range);
       powers-enclose = simp (test, range) (λ e. absurd (omega arith));

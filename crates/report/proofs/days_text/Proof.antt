@@ -25,7 +25,7 @@ same-length : tie.Need-same-length
 same-length c = search needs
 
 returns : tie.Need-returns
-returns c = c .before .before .account-text .ensures .prints
+returns c = c .before .before .account-text .ensures .0 .prints
 
 pub days-text-spec : {M : Type 1} → statement M
 days-text-spec =

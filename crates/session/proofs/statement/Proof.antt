@@ -42,7 +42,7 @@ returns c =
     let m = c .before .before .before .before .before .before .before .before .boundaries in
     let k = c .before .before .before .before .before .before .before .boundaries2 in
     rw (take-least (a .days) (n .result) (a .weights .now) (n .ensures), take-least (a .days + 1) (m .result) (a .marks .now) (m .ensures), take-least (a .days + 1) (k .result) (a .counts .now) (k .ensures))
-    at (c .before .before .account-text .ensures .prints)
+    at (c .before .before .account-text .ensures .0 .prints)
 
 pub statement-spec : {M : Type 1} → statement M
 statement-spec =

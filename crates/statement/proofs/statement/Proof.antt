@@ -27,7 +27,7 @@ long : (c : tie.Else3) → Long (days (lent (start c))) (given (start c))
 long c = record { from = c .before .before .if1 .left; to = c .before .if2 .left; wh = c .if3 .left }
 
 sound : (c : tie.Else5) → Checked (lent (start (c .before .before .before)))
-sound c = checked _ _ (c .before .before .check .ensures .answers) (c .if5 .left)
+sound c = checked _ _ (c .before .before .check .ensures .0 .answers) (c .if5 .left)
 
 abbrev clear : (c : tie.After-count-readings) → tie.Else5
 clear c = c .before .before .before .before .before .before .before .before .before .before .before .before .before
@@ -52,10 +52,10 @@ check-requires : tie.Need-check-requires
 check-requires c κs = tt
 
 returns-4 : tie.Need-returns-4
-returns-4 c = met-account _ _ _ (c .before .check .ensures .answers) (c .if4 .taken)
+returns-4 c = met-account _ _ _ (c .before .check .ensures .0 .answers) (c .if4 .taken)
 
 returns-5 : tie.Need-returns-5
-returns-5 c = met-unsound _ _ _ (long (c .before .before .before)) (c .before .before .check .ensures .answers) (c .before .if4 .left) (c .if5 .taken)
+returns-5 c = met-unsound _ _ _ (long (c .before .before .before)) (c .before .before .check .ensures .0 .answers) (c .before .if4 .left) (c .if5 .taken)
 
 clear-boundaries-requires : tie.Need-clear-boundaries-requires
 clear-boundaries-requires c κs = tt

@@ -15,7 +15,7 @@ lent c = account (c .args .weights .now) (c .args .marks .now) (c .args .counts 
 
 through : (c : tie.Else2) → accountRows (lent (c .before .before .before .before .before .before)) 0 ≡ 0
 through c =
-    let is = c .before .before .check .ensures .answers in
+    let is = c .before .before .check .ensures .0 .answers in
     sym is ∙ rows-pass (lent (c .before .before .before .before .before .before)) _ is (c .before .if1 .left) (c .if2 .left)
 
 check-requires : tie.Need-check-requires
@@ -23,12 +23,12 @@ check-requires c κs = tt
 
 returns : tie.Need-returns
 returns c =
-    rows-refuse (lent (c .before .before .before .before .before)) 3 _ (sym (c .if1 .taken) ∙ c .before .check .ensures .answers) (λ e. omega arith)
+    rows-refuse (lent (c .before .before .before .before .before)) 3 _ (sym (c .if1 .taken) ∙ c .before .check .ensures .0 .answers) (λ e. omega arith)
 
 returns-2 : tie.Need-returns-2
 returns-2 c =
     rows-refuse (lent (c .before .before .before .before .before .before)) 5 _
-    (sym (c .if2 .taken) ∙ c .before .before .check .ensures .answers)
+    (sym (c .if2 .taken) ∙ c .before .before .check .ensures .0 .answers)
     (λ e. omega arith)
 
 returns-3 : tie.Need-returns-3

@@ -25,12 +25,12 @@ met c = simp (toZ-ofZ (c .before .fits .t)) at (c .ratio-at .ensures)
 low : (c : tie.After-bounds) → c .bounds .result .low ≡ lowPower (c .before .before .args .p) (c .before .before .args .t)
 low c =
     let q = c .before in
-    c .bounds .ensures .lower ∙ low-is (q .before .args .p) (q .before .args .t) (q .before .pre) (met q .n-is) (met q .m-is)
+    c .bounds .ensures .0 .lower ∙ low-is (q .before .args .p) (q .before .args .t) (q .before .pre) (met q .n-is) (met q .m-is)
 
 high : (c : tie.After-bounds) → c .bounds .result .high ≡ highPower (c .before .before .args .p) (c .before .before .args .t)
 high c =
     let q = c .before in
-    c .bounds .ensures .upper ∙ high-is (q .before .args .p) (q .before .args .t) (q .before .pre) (met q .n-is) (met q .m-is)
+    c .bounds .ensures .0 .upper ∙ high-is (q .before .args .p) (q .before .args .t) (q .before .pre) (met q .n-is) (met q .m-is)
 
 low-small : (c : tie.After-bounds) → c .bounds .result .low ≤ 2 ^ 30
 unfolding one

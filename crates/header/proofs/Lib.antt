@@ -1,0 +1,3 @@
+-- The theorems of crate header.
+pub mod Names
+pub mod Lists

@@ -1,0 +1,40 @@
+-- Each call for C and Rust has the contract of its name, by computation. Assumes nothing.
+use mathlib.Core.Path.{refl}
+use Rattle.header.specs.Named.{Named}
+
+pub named : Named
+named =
+    record {
+      temperature-is = λ κs a r s. refl;
+      choose-is = λ κs a r s. refl;
+      value-is = λ κs a r s. refl;
+      day-weight-is = λ κs a r s. refl;
+      weights-is = λ κs a r s. refl;
+      open-is = λ κs a r s. refl;
+      reading-is = λ κs a r s. refl;
+      withdraw-is = λ κs a r s. refl;
+      cut-is = λ κs a r s. refl;
+      uncut-is = λ κs a r s. refl;
+      statement-is = λ κs a r s. refl;
+      customer-value-is = λ κs a r s. refl;
+      daily-amount-is = λ κs a r s. refl;
+      read-is = λ κs a r s. refl;
+      statement-text-is = λ κs a r s. refl;
+      refusal-text-is = λ κs a r s. refl;
+      temperature-asks-nothing = λ κs a. refl;
+      choose-asks-nothing = λ κs a. refl;
+      value-asks-nothing = λ κs a. refl;
+      day-weight-asks-nothing = λ κs a. refl;
+      weights-asks-nothing = λ κs a. refl;
+      open-asks-nothing = λ κs a. refl;
+      reading-asks-nothing = λ κs a. refl;
+      withdraw-asks-nothing = λ κs a. refl;
+      cut-asks-nothing = λ κs a. refl;
+      uncut-asks-nothing = λ κs a. refl;
+      statement-asks-nothing = λ κs a. refl;
+      customer-value-asks-nothing = λ κs a. refl;
+      daily-amount-asks-nothing = λ κs a. refl;
+      read-asks-nothing = λ κs a. refl;
+      statement-text-asks-nothing = λ κs a. refl;
+      refusal-text-asks-nothing = λ κs a. refl;
+    }

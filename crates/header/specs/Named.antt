@@ -1,0 +1,104 @@
+-- The calls for C and Rust by their names (If a call declines): the contract of each, as the toolchain reads it, IS the record of its name
+-- in crate ffi, and none asks anything of its caller, "each entry point checks its own input".
+-- (proofs/Names, `named`: by `refl`, so a contract that is weakened, or that stands at another call, breaks it)
+use Prim.Native.Nat.{ℕ}
+use mathlib.Core.Path.{_≡_}
+use mathlib.Core.List.{List}
+use contract.Lifetimes
+use borrow.Fn.Kinds
+use denote.Ref.{RefT, now}
+use denote.Triple.Clauses
+use Rattle.account.specs.Account.{Account, account}
+use Rattle.statement.specs.Parts.{Outputs, outputs}
+use Rattle.layout.specs.Text.{LaidOut, TextMet, statementText, refusalText}
+use Rattle.ffi.specs.Calls.{TemperatureReturned, ChooseReturned, ValueReturned, WeightReturned, WeightsReturned, OpenReturned, ReadingReturned, WithdrawReturned, CutReturned, UncutReturned, StatementReturned, CustomerReturned, AmountReturned, ReadReturned}
+use Rattle.ffi.proofs.arvadush_temperature.Kinds as temperature-kinds
+use Rattle.ffi.proofs.arvadush_temperature.Reads as temperature-reads
+use Rattle.ffi.proofs.arvadush_choose.Kinds as choose-kinds
+use Rattle.ffi.proofs.arvadush_choose.Reads as choose-reads
+use Rattle.ffi.proofs.arvadush_value.Kinds as value-kinds
+use Rattle.ffi.proofs.arvadush_value.Reads as value-reads
+use Rattle.ffi.proofs.arvadush_day_weight.Kinds as day-weight-kinds
+use Rattle.ffi.proofs.arvadush_day_weight.Reads as day-weight-reads
+use Rattle.ffi.proofs.arvadush_weights.Kinds as weights-kinds
+use Rattle.ffi.proofs.arvadush_weights.Reads as weights-reads
+use Rattle.ffi.proofs.arvadush_open.Kinds as open-kinds
+use Rattle.ffi.proofs.arvadush_open.Reads as open-reads
+use Rattle.ffi.proofs.arvadush_reading.Kinds as reading-kinds
+use Rattle.ffi.proofs.arvadush_reading.Reads as reading-reads
+use Rattle.ffi.proofs.arvadush_withdraw.Kinds as withdraw-kinds
+use Rattle.ffi.proofs.arvadush_withdraw.Reads as withdraw-reads
+use Rattle.ffi.proofs.arvadush_cut.Kinds as cut-kinds
+use Rattle.ffi.proofs.arvadush_cut.Reads as cut-reads
+use Rattle.ffi.proofs.arvadush_uncut.Kinds as uncut-kinds
+use Rattle.ffi.proofs.arvadush_uncut.Reads as uncut-reads
+use Rattle.ffi.proofs.arvadush_statement.Kinds as statement-kinds
+use Rattle.ffi.proofs.arvadush_statement.Reads as statement-reads
+use Rattle.ffi.proofs.arvadush_customer_value.Kinds as customer-value-kinds
+use Rattle.ffi.proofs.arvadush_customer_value.Reads as customer-value-reads
+use Rattle.ffi.proofs.arvadush_daily_amount.Kinds as daily-amount-kinds
+use Rattle.ffi.proofs.arvadush_daily_amount.Reads as daily-amount-reads
+use Rattle.ffi.proofs.arvadush_read.Kinds as read-kinds
+use Rattle.ffi.proofs.arvadush_read.Reads as read-reads
+use Rattle.ffi.proofs.arvadush_statement_text.Kinds as statement-text-kinds
+use Rattle.ffi.proofs.arvadush_statement_text.Reads as statement-text-reads
+use Rattle.ffi.proofs.arvadush_refusal_text.Kinds as refusal-text-kinds
+use Rattle.ffi.proofs.arvadush_refusal_text.Reads as refusal-text-reads
+
+-- the account, and the outputs, that three references lend
+abbrev lent : RefT (List ℕ) → RefT (List ℕ) → RefT (List ℕ) → Account
+lent w m c = account (now w) (now m) (now c)
+
+abbrev lentOut : RefT (List ℕ) → RefT (List ℕ) → RefT (List ℕ) → Outputs
+lentOut f t e = outputs (now f) (now t) (now e)
+
+-- a: what the call is given; r: what it returns; s: what its references show after it
+pub record Named : Type 1 where
+  pub temperature-is : (κs : Lifetimes.Lfts 0) (a : Kinds.Dens κs temperature-kinds.ps) (r : _) (s : _) →
+      temperature-reads.Post κs a r s ≡ TemperatureReturned (a .0) (a .1 .0) (a .1 .1 .0) (a .1 .1 .1 .0) r
+  pub choose-is : (κs : Lifetimes.Lfts 1) (a : Kinds.Dens κs choose-kinds.ps) (r : _) (s : _) →
+      choose-reads.Post κs a r s ≡ ChooseReturned (now (a .0)) (now (a .1 .0)) (a .1 .1 .0) r (now (s .0)) (now (s .1 .0))
+  pub value-is : (κs : Lifetimes.Lfts 0) (a : Kinds.Dens κs value-kinds.ps) (r : _) (s : _) →
+      value-reads.Post κs a r s ≡ ValueReturned (a .0) (a .1 .0) r
+  pub day-weight-is : (κs : Lifetimes.Lfts 0) (a : Kinds.Dens κs day-weight-kinds.ps) (r : _) (s : _) →
+      day-weight-reads.Post κs a r s ≡ WeightReturned (a .0) (a .1 .0) (a .1 .1 .0) r
+  pub weights-is : (κs : Lifetimes.Lfts 2) (a : Kinds.Dens κs weights-kinds.ps) (r : _) (s : _) →
+      weights-reads.Post κs a r s ≡ WeightsReturned (a .0) (a .1 .0) (now (a .1 .1 .0)) (now (a .1 .1 .1 .0)) r (now (s .1 .1 .1 .0)) (now (s .1 .1 .0))
+  pub open-is : (κs : Lifetimes.Lfts 3) (a : Kinds.Dens κs open-kinds.ps) (r : _) (s : _) →
+      open-reads.Post κs a r s ≡ OpenReturned (lent (a .0) (a .1 .0) (a .1 .1 .0)) r (lent (s .0) (s .1 .0) (s .1 .1 .0))
+  pub reading-is : (κs : Lifetimes.Lfts 3) (a : Kinds.Dens κs reading-kinds.ps) (r : _) (s : _) →
+      reading-reads.Post κs a r s ≡ ReadingReturned (a .1 .1 .1 .0) (a .1 .1 .1 .1 .0) (lent (a .0) (a .1 .0) (a .1 .1 .0)) r (lent (s .0) (s .1 .0) (s .1 .1 .0))
+  pub withdraw-is : (κs : Lifetimes.Lfts 3) (a : Kinds.Dens κs withdraw-kinds.ps) (r : _) (s : _) →
+      withdraw-reads.Post κs a r s ≡ WithdrawReturned (a .1 .1 .1 .0) (lent (a .0) (a .1 .0) (a .1 .1 .0)) r (lent (s .0) (s .1 .0) (s .1 .1 .0))
+  pub cut-is : (κs : Lifetimes.Lfts 3) (a : Kinds.Dens κs cut-kinds.ps) (r : _) (s : _) →
+      cut-reads.Post κs a r s ≡ CutReturned (a .1 .1 .1 .0) (lent (a .0) (a .1 .0) (a .1 .1 .0)) r (lent (s .0) (s .1 .0) (s .1 .1 .0))
+  pub uncut-is : (κs : Lifetimes.Lfts 3) (a : Kinds.Dens κs uncut-kinds.ps) (r : _) (s : _) →
+      uncut-reads.Post κs a r s ≡ UncutReturned (a .1 .1 .1 .0) (lent (a .0) (a .1 .0) (a .1 .1 .0)) r (lent (s .0) (s .1 .0) (s .1 .1 .0))
+  pub statement-is : (κs : Lifetimes.Lfts 6) (a : Kinds.Dens κs statement-kinds.ps) (r : _) (s : _) →
+      statement-reads.Post κs a r s ≡ StatementReturned (lent (a .0) (a .1 .0) (a .1 .1 .0)) (lentOut (a .1 .1 .1 .0) (a .1 .1 .1 .1 .0) (a .1 .1 .1 .1 .1 .0)) r (lent (s .0) (s .1 .0) (s .1 .1 .0)) (lentOut (s .1 .1 .1 .0) (s .1 .1 .1 .1 .0) (s .1 .1 .1 .1 .1 .0))
+  pub customer-value-is : (κs : Lifetimes.Lfts 1) (a : Kinds.Dens κs customer-value-kinds.ps) (r : _) (s : _) →
+      customer-value-reads.Post κs a r s ≡ CustomerReturned (a .0) (now (a .1 .0)) r (now (s .1 .0))
+  pub daily-amount-is : (κs : Lifetimes.Lfts 0) (a : Kinds.Dens κs daily-amount-kinds.ps) (r : _) (s : _) →
+      daily-amount-reads.Post κs a r s ≡ AmountReturned (a .0) (a .1 .0) r
+  pub read-is : (κs : Lifetimes.Lfts 4) (a : Kinds.Dens κs read-kinds.ps) (r : _) (s : _) →
+      read-reads.Post κs a r s ≡ ReadReturned (now (a .0)) (lent (a .1 .0) (a .1 .1 .0) (a .1 .1 .1 .0)) r (lent (s .1 .0) (s .1 .1 .0) (s .1 .1 .1 .0)) (now (s .0))
+  pub statement-text-is : (κs : Lifetimes.Lfts 4) (a : Kinds.Dens κs statement-text-kinds.ps) (r : _) (s : _) →
+      statement-text-reads.Post κs a r s ≡ TextMet (statementText (lentOut (a .0) (a .1 .0) (a .1 .1 .0)) (a .1 .1 .1 .0)) (now (a .1 .1 .1 .1 .0)) r (now (s .1 .1 .1 .1 .0)) (lentOut (a .0) (a .1 .0) (a .1 .1 .0)) (lentOut (s .0) (s .1 .0) (s .1 .1 .0))
+  pub refusal-text-is : (κs : Lifetimes.Lfts 1) (a : Kinds.Dens κs refusal-text-kinds.ps) (r : _) (s : _) →
+      refusal-text-reads.Post κs a r s ≡ LaidOut 0 (refusalText (a .0) (a .1 .0)) (now (a .1 .1 .0)) r (now (s .1 .1 .0))
+  pub temperature-asks-nothing : (κs : Lifetimes.Lfts 0) (a : Kinds.Dens κs temperature-kinds.ps) → temperature-reads.Pre κs a ≡ Unit {0}
+  pub choose-asks-nothing : (κs : Lifetimes.Lfts 1) (a : Kinds.Dens κs choose-kinds.ps) → choose-reads.Pre κs a ≡ Unit {0}
+  pub value-asks-nothing : (κs : Lifetimes.Lfts 0) (a : Kinds.Dens κs value-kinds.ps) → value-reads.Pre κs a ≡ Unit {0}
+  pub day-weight-asks-nothing : (κs : Lifetimes.Lfts 0) (a : Kinds.Dens κs day-weight-kinds.ps) → day-weight-reads.Pre κs a ≡ Unit {0}
+  pub weights-asks-nothing : (κs : Lifetimes.Lfts 2) (a : Kinds.Dens κs weights-kinds.ps) → weights-reads.Pre κs a ≡ Unit {0}
+  pub open-asks-nothing : (κs : Lifetimes.Lfts 3) (a : Kinds.Dens κs open-kinds.ps) → open-reads.Pre κs a ≡ Unit {0}
+  pub reading-asks-nothing : (κs : Lifetimes.Lfts 3) (a : Kinds.Dens κs reading-kinds.ps) → reading-reads.Pre κs a ≡ Unit {0}
+  pub withdraw-asks-nothing : (κs : Lifetimes.Lfts 3) (a : Kinds.Dens κs withdraw-kinds.ps) → withdraw-reads.Pre κs a ≡ Unit {0}
+  pub cut-asks-nothing : (κs : Lifetimes.Lfts 3) (a : Kinds.Dens κs cut-kinds.ps) → cut-reads.Pre κs a ≡ Unit {0}
+  pub uncut-asks-nothing : (κs : Lifetimes.Lfts 3) (a : Kinds.Dens κs uncut-kinds.ps) → uncut-reads.Pre κs a ≡ Unit {0}
+  pub statement-asks-nothing : (κs : Lifetimes.Lfts 6) (a : Kinds.Dens κs statement-kinds.ps) → statement-reads.Pre κs a ≡ Unit {0}
+  pub customer-value-asks-nothing : (κs : Lifetimes.Lfts 1) (a : Kinds.Dens κs customer-value-kinds.ps) → customer-value-reads.Pre κs a ≡ Unit {0}
+  pub daily-amount-asks-nothing : (κs : Lifetimes.Lfts 0) (a : Kinds.Dens κs daily-amount-kinds.ps) → daily-amount-reads.Pre κs a ≡ Unit {0}
+  pub read-asks-nothing : (κs : Lifetimes.Lfts 4) (a : Kinds.Dens κs read-kinds.ps) → read-reads.Pre κs a ≡ Unit {0}
+  pub statement-text-asks-nothing : (κs : Lifetimes.Lfts 4) (a : Kinds.Dens κs statement-text-kinds.ps) → statement-text-reads.Pre κs a ≡ Unit {0}
+  pub refusal-text-asks-nothing : (κs : Lifetimes.Lfts 1) (a : Kinds.Dens κs refusal-text-kinds.ps) → refusal-text-reads.Pre κs a ≡ Unit {0}
