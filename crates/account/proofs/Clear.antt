@@ -1,4 +1,4 @@
--- A loop that clears a list, one store a turn: the first i are 0 and the others are as they were. Assumes nothing.
+-- A loop that clears a list (If a call declines), one store a turn: the first i are 0 and the others are as they were. Assumes nothing.
 use Prim.Native.Nat.{ℕ, _+_, _≤_, _<_}
 use native.Mathlib.Omega.{arith}
 use mathlib.Core.Path.{_≡_, refl, ap, _∙_}

@@ -10,11 +10,12 @@ use native.Mathlib.Omega.{arith}
 use Rattle.account.specs.Below.{everywhere}
 use Rattle.account.specs.Stands.{Stands, nothing, put, withReading, withoutReading, lastLessFirst}
 use Rattle.account.specs.Account.{Account, account, shown, days, unfit, sound, goodWeights, goodMarks, zeroCounts, energyMost, markOf}
+use Rattle.account.specs.Slices.{Checked}
 use Rattle.account.specs.Refusals.{outOfOrder, tooMuch, openNumber, readingRows, withdrawRows, cutRows, uncutRows}
 use Rattle.account.specs.Calls.{cleared, readingPut, readingTaken, cutPut, cutTaken}
 use Rattle.account.proofs.Below.{clash, every-at}
 use Rattle.account.proofs.Sound.{fit, Sound, sound-parts}
-use Rattle.account.proofs.Rows.{Checked, row-none}
+use Rattle.account.proofs.Rows.{row-none}
 use Rattle.account.proofs.Shows.{set-asked, shows-cut, shows-reading, shows-nothing, zeros}
 use Rattle.account.proofs.Readings.{SoundReadings, every-is, reading-sound, withdraw-sound, nothing-sound}
 

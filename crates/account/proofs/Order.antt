@@ -1,4 +1,4 @@
--- Laws of `neverFalling`: it is found in one pass that carries the last reading's count. Assumes nothing.
+-- Laws of `neverFalling` (Account and its calls): it is found in one pass that carries the last reading's count. Assumes nothing.
 use Prim.Native.Nat.{ℕ, zero, suc, _≤_, _<_}
 use native.Mathlib.Nat.{not-suc-le-zero, le-of-suc-le-suc, eq-or-lt-of-le}
 use mathlib.Core.Path.{_≡_, refl, sym, subst}

@@ -1,4 +1,4 @@
--- The pass over marks and counts that finds whether they are sound: what it knows after k boundaries, and when it fails. Assumes nothing.
+-- The pass over marks and counts that finds whether they are sound (Account and its calls): what it knows after k boundaries, and when it fails. Assumes nothing.
 use Prim.Native.Nat.{ℕ, suc, _≤_, _<_}
 use mathlib.Core.Path.{_≡_, refl, subst}
 use mathlib.Core.Bool.{true, false, and-false}

@@ -1,4 +1,4 @@
--- The rows of the table, from the facts that lead to each of them, and back. Assumes nothing.
+-- The rows of the table (If a call declines), from the facts that lead to each of them, and back. Assumes nothing.
 use Prim.Native.Nat.{ℕ, _≤_, _<_}
 use native.Mathlib.Omega.{arith}
 use mathlib.Core.Path.{_≡_, refl, sym, ap, ap₂, _∙_}
@@ -10,7 +10,7 @@ use Rattle.account.specs.Account as accounts
 use Rattle.account.specs.Account.{Account, days, shown, unfit, sound, goodWeights, energyMost}
 use Rattle.profile.specs.Rows.{row}
 use Rattle.account.specs.Refusals.{accountRows}
-use Rattle.account.specs.Slices.{Fit, readsAt, countAt, spread, goodBoundaries, boundaryRows, nextRow}
+use Rattle.account.specs.Slices.{Fit, Checked, readsAt, countAt, spread, goodBoundaries, boundaryRows, nextRow}
 use Rattle.account.proofs.Sound.{fit}
 use Rattle.account.proofs.Spread.{spread-is}
 
@@ -60,11 +60,6 @@ rows-pass a n is no3 no5 = is ∙ go (unfit a) (sound a) (λ e. no3 (is ∙ e)) 
     go true s no3 no5 = absurd (no3 refl)
     go false true no3 no5 = refl
     go false false no3 no5 = absurd (no5 refl)
-
--- an account that rows 3 and 5 let pass
-pub record Checked (a : Account) : Type 0 where
-  pub fits : unfit a ≡ false
-  pub sound : sound a ≡ true
 
 pub checked : (a : Account) (rest : ℕ) → accountRows a rest ≡ 0 → Checked a
 checked a rest e =

@@ -1,4 +1,4 @@
--- What an account that fits and is sound has: the facts behind `unfit`, `sound` and the rows 3 and 5. Assumes nothing.
+-- What an account that fits and is sound has (Account and its calls): the facts behind `unfit`, `sound` and the rows 3 and 5. Assumes nothing.
 use Prim.Native.Nat.{ℕ, suc, _+_, _≤_, _<_}
 use mathlib.Core.Path.{_≡_}
 use mathlib.Core.Bool.{true, false, not, _&&_, _||_}

@@ -1,4 +1,4 @@
--- Last less first, from the four numbers that make it, and as the specifications ask it. Assumes nothing.
+-- Last less first (Account and its calls), from the four numbers that make it, and as the specifications ask it. Assumes nothing.
 use Prim.Native.Nat.{ℕ, _-_}
 use native.Mathlib.Numerals.{add-one}
 use mathlib.Core.Path.{_≡_, ap, ap₂, _∙_}

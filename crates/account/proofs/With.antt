@@ -1,4 +1,4 @@
--- The first and the last boundary with p, when k is taken in among them. Assumes nothing.
+-- The first and the last boundary with p (Account and its calls), when k is taken in among them. Assumes nothing.
 use Prim.Native.Nat.{ℕ, zero, suc, _≤_, _<_}
 use native.Mathlib.Nat.{le-refl}
 use native.Mathlib.Omega.{arith}

@@ -4,6 +4,7 @@ use mathlib.Core.Bool.{Bool, true, false, not, _&&_, _||_}
 use mathlib.Core.List.{List}
 use lib.Dec.{leb, eqb}
 use lib.ListN.{length, getD}
+use denote.Ref.{RefT, now}
 use Rattle.profile.specs.Limits.{weightLeast, weightMost, badSpan}
 use Rattle.account.specs.Below.{everywhere}
 use Rattle.account.specs.Stands.{Stands, neverFalling, lastLessFirst}
@@ -17,6 +18,10 @@ pub record Account : Type 0 where
 
 abbrev pub account : List ℕ → List ℕ → List ℕ → Account
 account w m c = record { weights = w; marks = m; counts = c }
+
+-- what three lent slices hold, at the start (`entry`) or the end (`exit`) of a call
+abbrev pub accountIn : RefT (List ℕ) → RefT (List ℕ) → RefT (List ℕ) → Account
+accountIn w m c = account (now w) (now m) (now c)
 
 -- n
 abbrev pub days : Account → ℕ

@@ -1,15 +1,16 @@
 -- Short names for the contracts of the private functions, some of which take single slices (Account and its calls).
 use Prim.Native.Nat.{ℕ, suc, _+_, _-_, _≤_}
 use mathlib.Core.Path.{_≡_}
-use mathlib.Core.Bool.{Bool, cond, _&&_}
+use mathlib.Core.Bool.{Bool, true, false, _&&_}
 use mathlib.Core.List.{List}
-use lib.Dec.{ltb, eqb}
+use lib.Dec.{ltb}
 use lib.ListN.{length, getD}
 use Rattle.profile.specs.Limits.{spanMost}
 use Rattle.account.specs.Below.{first, last}
 use Rattle.account.specs.Stands.{neverFalling}
-use Rattle.account.specs.Account.{Account, days, shown, marksReading, goodMarks, zeroCounts}
-use Rattle.profile.specs.Rows.{row}
+use Rattle.account.specs.Account.{Account, days, shown, unfit, marksReading, goodMarks, zeroCounts}
+use Rattle.account.specs.Account as accounts
+use Rattle.profile.specs.Rows.{row, ifDone}
 use Rattle.account.specs.Refusals.{accountRows}
 
 -- whether these marks show a reading at k
@@ -31,6 +32,11 @@ pub record Fit (a : Account) : Type 0 where
   pub marks : length (a .marks) ≡ days a + 1
   pub counts : length (a .counts) ≡ days a + 1
 
+-- an account that rows 3 and 5 let pass
+pub record Checked (a : Account) : Type 0 where
+  pub fits : unfit a ≡ false
+  pub sound : accounts.sound a ≡ true
+
 -- the part of soundness that one pass over marks and counts shows
 abbrev pub goodBoundaries : Account → Bool
 goodBoundaries a = goodMarks a && zeroCounts a && neverFalling (shown a .readings) (suc (days a))
@@ -41,4 +47,4 @@ boundaryRows a k rest = accountRows a (row (ltb (days a) k) 6 rest)
 
 -- after rows that answered n (0 is nothing yet), one row more
 abbrev pub nextRow : ℕ → Bool → ℕ → ℕ
-nextRow n holds refusal = cond (eqb n 0) (row holds refusal 0) n
+nextRow n holds refusal = ifDone n (row holds refusal 0) n

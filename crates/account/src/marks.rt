@@ -7,7 +7,7 @@ ghost use Rattle.account.specs.Below as boundaries;
 ghost use Rattle.account.specs.Account.{marksReading, marksCut};
 ghost use Rattle.account.specs.Slices.{readsAt, countAt, spread};
 
-// "2 reading, 3 both"
+// A reading: 2, or 3 with a cut.
 pub(crate) fn is_reading(m: u8) -> bool
     ensures { λ r. ⌜ r ≡ marksReading m ⌝ }
 {
@@ -17,7 +17,7 @@ pub(crate) fn is_reading(m: u8) -> bool
     m == 3
 }
 
-// "1 cut, 3 both"
+// A cut: 1, or 3 with a reading.
 pub(crate) fn is_cut(m: u8) -> bool
     ensures { λ r. ⌜ r ≡ marksCut m ⌝ }
 {

@@ -2,7 +2,7 @@
 use crate::marks::is_reading;
 use profile::Profile;
 ghost use mathlib.Core.Path.{_≡_};
-ghost use Rattle.account.specs.Account.{account, unfitLengths};
+ghost use Rattle.account.specs.Account.{accountIn, unfitLengths};
 ghost use Rattle.account.specs.Slices.{Fit, goodBoundaries};
 
 // Row 3: n outside 1 to 1,096, or marks or counts not n+1 long.
@@ -23,8 +23,8 @@ pub(crate) fn unfit(n: usize, marks: usize, counts: usize) -> bool
 
 // In one pass: marks 0 to 3, no count without a reading, readings never falling. `last` is the last reading's count, 0 before the first.
 pub(crate) fn good_boundaries(weights: &[u32], marks: &[u8], counts: &[u64]) -> bool
-    requires { ⌜ Fit (account (now weights) (now marks) (now counts)) ⌝ }
-    ensures { λ r. ⌜ r ≡ goodBoundaries (account (now (weights .entry)) (now (marks .entry)) (now (counts .entry))) ⌝ }
+    requires { ⌜ Fit (accountIn weights marks counts) ⌝ }
+    ensures { λ r. ⌜ r ≡ goodBoundaries (accountIn (weights .entry) (marks .entry) (counts .entry)) ⌝ }
 {
     let mut last: u64 = 0;
     let mut k = 0;

@@ -17,14 +17,14 @@ ghost use lib.Dec.{ltb};
 ghost use lib.ListN.{length};
 ghost use Rattle.account.specs.Below.{first, last};
 ghost use Rattle.account.specs.Stands.{put};
-ghost use Rattle.account.specs.Account.{account, shown, marksReading};
+ghost use Rattle.account.specs.Account.{accountIn, shown, marksReading};
 ghost use Rattle.account.specs.Refusals.{outOfOrder, readingNumber, withdrawNumber, cutNumber, uncutNumber};
 ghost use Rattle.account.specs.Calls.{number};
 ghost use Rattle.account.specs.Slices.{Fit, boundaryRows, nextRow, readsAt, countAt, spread};
 
 // The rows of every call on a boundary: 3, 5 and 6.
-pub(crate) fn boundary_answer(weights: &[u32], marks: &[u8], counts: &[u64], k: usize) -> Answer
-    ensures { λ r. ⌜ number r ≡ boundaryRows (account (now (weights .entry)) (now (marks .entry)) (now (counts .entry))) k 0 ⌝ }
+fn boundary_answer(weights: &[u32], marks: &[u8], counts: &[u64], k: usize) -> Answer
+    ensures { λ r. ⌜ number r ≡ boundaryRows (accountIn (weights .entry) (marks .entry) (counts .entry)) k 0 ⌝ }
 {
     let n = check(weights, marks, counts);
     if n == 3 {
@@ -54,7 +54,7 @@ fn next_row(answer: Answer, holds: bool, refusal: Answer) -> Answer
 
 // Withdraw: 3, 5, 6, 10.
 pub(crate) fn withdraw_answer(weights: &[u32], marks: &[u8], counts: &[u64], k: usize) -> Answer
-    ensures { λ r. ⌜ number r ≡ withdrawNumber (account (now (weights .entry)) (now (marks .entry)) (now (counts .entry))) k ⌝ }
+    ensures { λ r. ⌜ number r ≡ withdrawNumber (accountIn (weights .entry) (marks .entry) (counts .entry)) k ⌝ }
 {
     let answer = boundary_answer(weights, marks, counts, k);
     next_row(answer, !is_reading(mark_at(marks, k)), Answer::NotThere)
@@ -62,7 +62,7 @@ pub(crate) fn withdraw_answer(weights: &[u32], marks: &[u8], counts: &[u64], k: 
 
 // Cut: 3, 5, 6, 7.
 pub(crate) fn cut_answer(weights: &[u32], marks: &[u8], counts: &[u64], k: usize) -> Answer
-    ensures { λ r. ⌜ number r ≡ cutNumber (account (now (weights .entry)) (now (marks .entry)) (now (counts .entry))) k ⌝ }
+    ensures { λ r. ⌜ number r ≡ cutNumber (accountIn (weights .entry) (marks .entry) (counts .entry)) k ⌝ }
 {
     let answer = boundary_answer(weights, marks, counts, k);
     next_row(answer, is_cut(mark_at(marks, k)), Answer::AlreadyThere)
@@ -70,7 +70,7 @@ pub(crate) fn cut_answer(weights: &[u32], marks: &[u8], counts: &[u64], k: usize
 
 // Uncut: 3, 5, 6, 10.
 pub(crate) fn uncut_answer(weights: &[u32], marks: &[u8], counts: &[u64], k: usize) -> Answer
-    ensures { λ r. ⌜ number r ≡ uncutNumber (account (now (weights .entry)) (now (marks .entry)) (now (counts .entry))) k ⌝ }
+    ensures { λ r. ⌜ number r ≡ uncutNumber (accountIn (weights .entry) (marks .entry) (counts .entry)) k ⌝ }
 {
     let answer = boundary_answer(weights, marks, counts, k);
     next_row(answer, !is_cut(mark_at(marks, k)), Answer::NotThere)
@@ -84,7 +84,7 @@ pub(crate) fn reading_answer(
     k: usize,
     v: u64,
 ) -> Answer
-    ensures { λ r. ⌜ number r ≡ readingNumber (account (now (weights .entry)) (now (marks .entry)) (now (counts .entry))) k v ⌝ }
+    ensures { λ r. ⌜ number r ≡ readingNumber (accountIn (weights .entry) (marks .entry) (counts .entry)) k v ⌝ }
 {
     let answer = boundary_answer(weights, marks, counts, k);
     if number_of(answer) != 0 {
@@ -104,8 +104,8 @@ pub(crate) fn reading_answer(
 
 // 8: "count below an earlier or above a later reading"
 fn out_of_order(weights: &[u32], marks: &[u8], counts: &[u64], k: usize, v: u64) -> bool
-    requires { ⌜ Fit (account (now weights) (now marks) (now counts)) ⌝ }
-    ensures { λ r. ⌜ r ≡ outOfOrder (length (now (weights .entry))) (shown (account (now (weights .entry)) (now (marks .entry)) (now (counts .entry))) .readings) k v ⌝ }
+    requires { ⌜ Fit (accountIn weights marks counts) ⌝ }
+    ensures { λ r. ⌜ r ≡ outOfOrder (length (now (weights .entry))) (shown (accountIn (weights .entry) (marks .entry) (counts .entry)) .readings) k v ⌝ }
 {
     let mut j = 0;
     while j <= weights.len() {

@@ -42,7 +42,7 @@ unfit-met s lent u = record { answers = rw u refl; places = rw u refl; gives = r
 clear-is : {n : ℕ} (lent : List ℕ) {after : List ℕ} → after ≡ replicate (length lent) 0 → length lent ≡ n → Clear n after
 clear-is lent {after} e l =
     let same : length after ≡ length lent = ap length e ∙ length-replicate (length lent) 0 in
-    record { long = same ∙ l; zeros = rw same e }
+    record { long = same ∙ l; all-zero = rw same e }
 
 pub all-clear : {lent after : Account} → after ≡ allZero lent → Long lent → AllClear after
 all-clear {lent} e l =

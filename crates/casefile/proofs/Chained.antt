@@ -26,7 +26,7 @@ span-none s e = head-none s (none-both (headFault s) (meansFault s) e .0) .span
 clear-filled : {m : ℕ} {lent : List ℕ} (n : ℕ) → Clear m lent → n ≤ m → lent ≡ filled m (replicate n 0)
 clear-filled {m} {lent} n c l =
     let e : length lent ≡ n + (m - n) = omega (arith, c .long) in
-    c .zeros ∙ ap (λ (k : ℕ). replicate k 0) e ∙ sym (replicate-append-replicate n (m - n) 0) ∙ ap (λ (k : ℕ). replicate n 0 ++ replicate (m - k) 0) (sym (length-replicate n 0))
+    c .all-zero ∙ ap (λ (k : ℕ). replicate k 0) e ∙ sym (replicate-append-replicate n (m - n) 0) ∙ ap (λ (k : ℕ). replicate n 0 ++ replicate (m - k) 0) (sym (length-replicate n 0))
 
 module _ {s : List ℕ} {at : ℕ} {so-far : SectionEnd} {marks counts : List ℕ} (a : ReadingsFrom s at so-far marks counts) where
   pub readings-unread : (so-far .number ≡ 0 → ⊥) → ReadingsMet s (beforeCutsFault s) so-far marks counts

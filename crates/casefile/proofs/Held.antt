@@ -1,4 +1,4 @@
--- A reader is Copy: what it owns gives what its file owns, and is kept whole. Assumes nothing.
+-- A reader is Copy (Case file): what it owns gives what its file owns, and is kept whole. Assumes nothing.
 use mathlib.Core.Path.{_≡_}
 use mathlib.Core.List.{[], _∷_}
 use lib.ListN.{length}

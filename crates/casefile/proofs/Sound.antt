@@ -22,7 +22,8 @@ use Rattle.account.specs.Calls.{cleared}
 use Rattle.account.proofs.Below.{clash, refuted, none-at}
 use Rattle.account.proofs.Readings.{every-is}
 use Rattle.account.proofs.Sound.{sound-parts}
-use Rattle.account.proofs.Rows.{Checked, rows-through}
+use Rattle.account.specs.Slices.{Checked}
+use Rattle.account.proofs.Rows.{rows-through}
 use Rattle.account.proofs.Keeps.{Holds, open-keeps, reading-keeps, cut-keeps}
 use Rattle.casefile.specs.Case.{profileByte, weekdayByte, meansLength, meansOf, daysOf, readingsOffset, readingsLength, readingOffset, readingBoundary, readingCount, cutsOffset, cutsLength, cutOffset, cutBoundary, endOf, emptyCase, withReadings, withCuts, accountOf}
 use Rattle.casefile.specs.Faults.{noFault, fault, firstFault, failsToRise, readingFault, cutFault, faultOf, headFault, meansFault, readingsFault, cutsFault}

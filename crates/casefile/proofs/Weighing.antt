@@ -114,7 +114,7 @@ weighs {profile} {weekday} {days} {means} {lent} {after} w m =
     let n = length (take (days + 3) means) - 3 in
     let full : after ≡ weightsOf profile weekday (take (days + 3) means) =
     m .writes ∙ simp (le-leb 1 n (omega arith), le-leb n spanMost (omega arith), eq-eqb (length (take days lent)) n (omega arith), lt-leb profileCount profile (omega arith), le-ltb 6 weekday (omega arith), w .means-in-range) in
-    let rest : drop days lent ≡ replicate (spanMost - days) 0 = ap (drop days) (w .clear .zeros) ∙ drop-zeros days (length lent) ∙ ap (λ (n : ℕ). replicate (n - days) 0) (w .clear .long) in
+    let rest : drop days lent ≡ replicate (spanMost - days) 0 = ap (drop days) (w .clear .all-zero) ∙ drop-zeros days (length lent) ∙ ap (λ (n : ℕ). replicate (n - days) 0) (w .clear .long) in
     let long : length (weightsOf profile weekday (take (days + 3) means)) ≡ days = weights-length profile weekday (take (days + 3) means) ∙ omega arith in
     rw (full, rest, long) refl
 

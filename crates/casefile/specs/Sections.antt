@@ -6,8 +6,9 @@ use mathlib.Core.Bool.{false}
 use mathlib.Core.List.{List}
 use lib.Dec.{ltb}
 use lib.IntN.{ℤ}
-use lib.ListN.{length, replicate, take}
+use lib.ListN.{length, take}
 use Rattle.profile.specs.Limits.{profileCount, spanMost}
+use Rattle.profile.specs.Rows.{zeros}
 use Rattle.account.specs.Account.{Account, energyMost}
 use Rattle.weights.specs.Means.{someOut}
 use Rattle.casefile.specs.declared.sections.SectionEnd.{SectionEnd}
@@ -43,7 +44,7 @@ pub record MeansMet (s : List ℕ) (p : SectionEnd) (means : List ℤ) : Type 0 
 -- a lent slice of this length, all zero
 pub record Clear (n : ℕ) (lent : List ℕ) : Type 0 where
   pub long : length lent ≡ n
-  pub zeros : lent ≡ replicate (length lent) 0
+  pub all-zero : lent ≡ zeros lent
 
 -- profile, weekday and the first means give weights, and the lent slice is zero
 pub record Weighable (profile weekday : ℕ) (means : List ℤ) (days : ℕ) (lent : List ℕ) : Type 0 where

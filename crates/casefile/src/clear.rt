@@ -1,12 +1,12 @@
 // Slices set to zero over their whole length (If a call declines: "outputs zero").
 ghost use mathlib.Core.Path.{_≡_};
 ghost use Rattle.profile.specs.Rows.{zeros};
-ghost use Rattle.account.specs.Account.{account};
+ghost use Rattle.account.specs.Account.{accountIn};
 ghost use Rattle.casefile.specs.Reader.{allZero};
 
 // The three slices of an account.
 pub(crate) fn clear(weights: &mut [u32], marks: &mut [u8], counts: &mut [u64])
-    ensures { λ r. ⌜ account (now (weights .exit)) (now (marks .exit)) (now (counts .exit)) ≡ allZero (account (now (weights .entry)) (now (marks .entry)) (now (counts .entry))) ⌝ }
+    ensures { λ r. ⌜ accountIn (weights .exit) (marks .exit) (counts .exit) ≡ allZero (accountIn (weights .entry) (marks .entry) (counts .entry)) ⌝ }
 {
     clear_weights(weights);
     clear_marks(marks);

@@ -10,7 +10,7 @@ mod span;
 use clear::clear;
 use profile::Profile;
 use reader::fill;
-ghost use Rattle.account.specs.Account.{account};
+ghost use Rattle.account.specs.Account.{accountIn};
 ghost use Rattle.casefile.specs.Reader.{ReadMet};
 
 // What the reader answers: n, or a row of the table with its place.
@@ -26,7 +26,7 @@ pub fn read_case(
     marks: &mut [u8],
     counts: &mut [u64],
 ) -> CaseAnswer
-    ensures { λ r. ⌜ ReadMet (now (file .entry)) (account (now (weights .entry)) (now (marks .entry)) (now (counts .entry))) r (account (now (weights .exit)) (now (marks .exit)) (now (counts .exit))) (now (file .exit)) ⌝ }
+    ensures { λ r. ⌜ ReadMet (now (file .entry)) (accountIn (weights .entry) (marks .entry) (counts .entry)) r (accountIn (weights .exit) (marks .exit) (counts .exit)) (now (file .exit)) ⌝ }
 {
     if weights.len() != Profile::SPAN {
         return CaseAnswer::Refused(3, 0);

@@ -1,6 +1,6 @@
 // The reader (Case file): it holds the file and its own position. Thin calls take it apart for the sections' functions.
 ghost use mathlib.Core.Path.{_≡_};
-ghost use Rattle.account.specs.Account.{account};
+ghost use Rattle.account.specs.Account.{accountIn};
 ghost use Rattle.profile.specs.Limits.{spanMost};
 ghost use Rattle.casefile.specs.Faults.{faultOf};
 ghost use Rattle.casefile.specs.Sections.{Clear, AllClear, SpanMet, ReadingsFrom, ReadingsMet, CutsFrom, CutsMet, FillMet, beforeCutsFault};
@@ -63,8 +63,8 @@ pub(crate) fn fill(
     marks: &mut [u8],
     counts: &mut [u64],
 ) -> SectionEnd
-    requires { ⌜ AllClear (account (now weights) (now marks) (now counts)) ⌝ }
-    ensures { λ p. ⌜ FillMet (now (file .entry)) p (account (now (weights .exit)) (now (marks .exit)) (now (counts .exit))) ⌝ }
+    requires { ⌜ AllClear (accountIn weights marks counts) ⌝ }
+    ensures { λ p. ⌜ FillMet (now (file .entry)) p (accountIn (weights .exit) (marks .exit) (counts .exit)) ⌝ }
 {
     let start = new(file);
     let span = span(start, weights);

@@ -46,7 +46,7 @@ fn head(file: &[u8]) -> SectionEnd
 
 // The means, up to the first fault, into a buffer.
 fn means_at(file: &[u8], at: usize, count: usize, means: &mut [i16]) -> SectionEnd
-    requires { ⌜ (at ≡ 4) × (count ≡ meansLength (now file)) × (4 ≤ count) × (count ≤ length (now means)) × (length (now means) ≡ 1099) ⌝ }
+    requires { ⌜ (at ≡ 4) × (count ≡ meansLength (now file)) × (4 ≤ count) × (count ≤ length (now means)) × (length (now means) ≡ spanMost + 3) ⌝ }
     ensures { λ r. ⌜ MeansMet (now (file .entry)) r (now (means .exit)) ⌝ }
 {
     let mut i = 0;

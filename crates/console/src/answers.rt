@@ -7,7 +7,7 @@ ghost use Prim.Native.Nat.{_+_, _≤_};
 ghost use mathlib.Core.Path.{_≡_};
 ghost use mathlib.Core.Bool.{false};
 ghost use lib.ListN.{length, take};
-ghost use Rattle.account.specs.Account.{account};
+ghost use Rattle.account.specs.Account.{accountIn};
 ghost use Rattle.layout.specs.Accounts.{textMost};
 ghost use Rattle.script.specs.Input.{scriptMost, scriptOf};
 ghost use Rattle.session.specs.Lines.{session};
@@ -21,7 +21,7 @@ pub(crate) fn answer_read(
     counts: &mut [u64],
     out: &mut [u8],
 ) -> Sent
-    requires { ⌜ (length (input .buffer) ≡ scriptMost + 1) × (input .read ≤ scriptMost + 1) × (session 0 (account (now weights) (now marks) (now counts)) ≡ fresh) × (textMost ≤ length (now out)) ⌝ }
+    requires { ⌜ (length (input .buffer) ≡ scriptMost + 1) × (input .read ≤ scriptMost + 1) × (session 0 (accountIn weights marks counts) ≡ fresh) × (textMost ≤ length (now out)) ⌝ }
     ensures { λ r. ⌜ (r .failed ≡ false → r .bytes ≡ length (scriptText (scriptOf (take (input .read) (input .buffer))))) ⌝ }
 {
     let buffer = input.buffer();
@@ -37,7 +37,7 @@ fn answer(
     counts: &mut [u64],
     out: &mut [u8],
 ) -> Sent
-    requires { ⌜ (session 0 (account (now weights) (now marks) (now counts)) ≡ fresh) × (textMost ≤ length (now out)) ⌝ }
+    requires { ⌜ (session 0 (accountIn weights marks counts) ≡ fresh) × (textMost ≤ length (now out)) ⌝ }
     ensures { λ r. ⌜ (r .failed ≡ false → r .bytes ≡ length (scriptText (scriptOf (now (input .entry))))) ⌝ }
 {
     let end = script::whole_lines(input);

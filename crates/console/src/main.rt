@@ -4,6 +4,7 @@ mod answers;
 mod input;
 mod printer;
 
+use layout::TEXT_MOST;
 use libc::STDIN_FILENO;
 use profile::Profile;
 
@@ -12,7 +13,7 @@ fn main() {
     let mut weights = [0u32; Profile::SPAN];
     let mut marks = [0u8; Profile::SPAN + 1];
     let mut counts = [0u64; Profile::SPAN + 1];
-    // The longest answer, 72,390 bytes, and 1,024 more.
-    let mut out = [0u8; 73_414];
+    // The longest answer, and 1,024 bytes more.
+    let mut out = [0u8; TEXT_MOST + 1_024];
     answers::answer_read(input, &mut weights, &mut marks, &mut counts, &mut out);
 }

@@ -1,2 +1,2 @@
--- What the proof of the chooser uses.
+-- The laws that the proofs of crate ffi share.
 mod Series

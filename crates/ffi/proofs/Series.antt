@@ -1,4 +1,4 @@
--- Which series the chooser takes, seen from how long its part is. Asked of one series alone, twice over, the part is n + 3 long where that
+-- Which series the chooser takes (Temperature of a day), seen from how long its part is. Asked of one series alone, twice over, the part is n + 3 long where that
 -- series serves, and else empty. Assumes nothing.
 use Prim.Native.Nat.{ℕ, _+_, _≤_}
 use mathlib.Core.Path.{_≡_, refl, ap, _∙_}

@@ -55,20 +55,20 @@ pub record ChooseReturned (measured forecast : List ℤ) (n : ℕ) (r : Chosen) 
   pub forecast-stays : forecastAfter ≡ forecast
 
 -- ---- Profile value
-pub record ValueReturned (k : ℕ) (t : ℤ) (r : Values) : Type 0 where
-  pub answers : r .number ≡ valueNumber k t
+pub record ValueReturned (profile : ℕ) (t : ℤ) (r : Values) : Type 0 where
+  pub answers : r .number ≡ valueNumber profile t
   pub places : r .place ≡ 0
-  pub low : r .low ≡ ifDone (valueNumber k t) (valueLow (profileOf k) t) (pos 0)
-  pub high : r .high ≡ ifDone (valueNumber k t) (valueHigh (profileOf k) t) (pos 0)
-  pub powers-enclose : valueNumber k t ≡ 0 → EnclosedPower (profileOf k) t
+  pub low : r .low ≡ ifDone (valueNumber profile t) (valueLow (profileOf profile) t) (pos 0)
+  pub high : r .high ≡ ifDone (valueNumber profile t) (valueHigh (profileOf profile) t) (pos 0)
+  pub powers-enclose : valueNumber profile t ≡ 0 → EnclosedPower (profileOf profile) t
 
-pub record WeightReturned (k weekday : ℕ) (t : ℤ) (r : Outcome) : Type 0 where
-  pub answers : r .number ≡ weightNumber k weekday t
+pub record WeightReturned (profile weekday : ℕ) (t : ℤ) (r : Outcome) : Type 0 where
+  pub answers : r .number ≡ weightNumber profile weekday t
   pub places : r .place ≡ 0
-  pub gives : r .value ≡ ifDone (weightNumber k weekday t) (weightOf k weekday t) 0
-  pub floored : weightNumber k weekday t ≡ 0 → floorWeight k weekday t ≡ pos (r .value)
-  pub least : weightNumber k weekday t ≡ 0 → weightLeast ≤ r .value
-  pub most : weightNumber k weekday t ≡ 0 → r .value ≤ weightMost
+  pub gives : r .value ≡ ifDone (weightNumber profile weekday t) (weightOf profile weekday t) 0
+  pub floored : weightNumber profile weekday t ≡ 0 → floorWeight profile weekday t ≡ pos (r .value)
+  pub least : weightNumber profile weekday t ≡ 0 → weightLeast ≤ r .value
+  pub most : weightNumber profile weekday t ≡ 0 → r .value ≤ weightMost
 
 pub record WeightsReturned (profile weekday : ℕ) (means : List ℤ) (before : List ℕ) (r : Outcome) (after : List ℕ) (meansAfter : List ℤ) : Type 0 where
   pub answers : r .number ≡ ruling profile weekday means before .number

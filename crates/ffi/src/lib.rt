@@ -9,8 +9,8 @@ use returned::value_high;
 use returned::value_low;
 use returned::value_number;
 use returned::value_place;
-ghost use Rattle.account.specs.Account.{account};
-ghost use Rattle.statement.specs.Parts.{outputs};
+ghost use Rattle.account.specs.Account.{accountIn};
+ghost use Rattle.statement.specs.Parts.{outputsIn};
 ghost use Rattle.layout.specs.Text.{LaidOut, TextMet, statementText, refusalText};
 ghost use Rattle.ffi.specs.Calls.{TemperatureReturned, ChooseReturned, ValueReturned, WeightReturned, WeightsReturned, OpenReturned, ReadingReturned, WithdrawReturned, CutReturned, UncutReturned, StatementReturned, CustomerReturned, AmountReturned, ReadReturned};
 
@@ -122,7 +122,7 @@ pub extern "C" fn arvadush_weights(
 // Clears marks and counts, whatever they held.
 #[no_mangle]
 pub extern "C" fn arvadush_open(weights: &[u32], marks: &mut [u8], counts: &mut [u64]) -> u8
-    ensures { λ r. ⌜ OpenReturned (account (now (weights .entry)) (now (marks .entry)) (now (counts .entry))) r (account (now (weights .exit)) (now (marks .exit)) (now (counts .exit))) ⌝ }
+    ensures { λ r. ⌜ OpenReturned (accountIn (weights .entry) (marks .entry) (counts .entry)) r (accountIn (weights .exit) (marks .exit) (counts .exit)) ⌝ }
 {
     account::number_of(account::open(weights, marks, counts))
 }
@@ -136,7 +136,7 @@ pub extern "C" fn arvadush_reading(
     k: usize,
     count: u64,
 ) -> u8
-    ensures { λ r. ⌜ ReadingReturned k count (account (now (weights .entry)) (now (marks .entry)) (now (counts .entry))) r (account (now (weights .exit)) (now (marks .exit)) (now (counts .exit))) ⌝ }
+    ensures { λ r. ⌜ ReadingReturned k count (accountIn (weights .entry) (marks .entry) (counts .entry)) r (accountIn (weights .exit) (marks .exit) (counts .exit)) ⌝ }
 {
     account::number_of(account::reading(weights, marks, counts, k, count))
 }
@@ -149,7 +149,7 @@ pub extern "C" fn arvadush_withdraw(
     counts: &mut [u64],
     k: usize,
 ) -> u8
-    ensures { λ r. ⌜ WithdrawReturned k (account (now (weights .entry)) (now (marks .entry)) (now (counts .entry))) r (account (now (weights .exit)) (now (marks .exit)) (now (counts .exit))) ⌝ }
+    ensures { λ r. ⌜ WithdrawReturned k (accountIn (weights .entry) (marks .entry) (counts .entry)) r (accountIn (weights .exit) (marks .exit) (counts .exit)) ⌝ }
 {
     account::number_of(account::withdraw(weights, marks, counts, k))
 }
@@ -157,7 +157,7 @@ pub extern "C" fn arvadush_withdraw(
 // Sets a cut at boundary k.
 #[no_mangle]
 pub extern "C" fn arvadush_cut(weights: &[u32], marks: &mut [u8], counts: &[u64], k: usize) -> u8
-    ensures { λ r. ⌜ CutReturned k (account (now (weights .entry)) (now (marks .entry)) (now (counts .entry))) r (account (now (weights .exit)) (now (marks .exit)) (now (counts .exit))) ⌝ }
+    ensures { λ r. ⌜ CutReturned k (accountIn (weights .entry) (marks .entry) (counts .entry)) r (accountIn (weights .exit) (marks .exit) (counts .exit)) ⌝ }
 {
     account::number_of(account::cut(weights, marks, counts, k))
 }
@@ -165,7 +165,7 @@ pub extern "C" fn arvadush_cut(weights: &[u32], marks: &mut [u8], counts: &[u64]
 // Removes the cut at boundary k.
 #[no_mangle]
 pub extern "C" fn arvadush_uncut(weights: &[u32], marks: &mut [u8], counts: &[u64], k: usize) -> u8
-    ensures { λ r. ⌜ UncutReturned k (account (now (weights .entry)) (now (marks .entry)) (now (counts .entry))) r (account (now (weights .exit)) (now (marks .exit)) (now (counts .exit))) ⌝ }
+    ensures { λ r. ⌜ UncutReturned k (accountIn (weights .entry) (marks .entry) (counts .entry)) r (accountIn (weights .exit) (marks .exit) (counts .exit)) ⌝ }
 {
     account::number_of(account::uncut(weights, marks, counts, k))
 }
@@ -180,7 +180,7 @@ pub extern "C" fn arvadush_statement(
     to: &mut [u16],
     wh: &mut [u64],
 ) -> Outcome
-    ensures { λ r. ⌜ StatementReturned (account (now (weights .entry)) (now (marks .entry)) (now (counts .entry))) (outputs (now (from .entry)) (now (to .entry)) (now (wh .entry))) r (account (now (weights .exit)) (now (marks .exit)) (now (counts .exit))) (outputs (now (from .exit)) (now (to .exit)) (now (wh .exit))) ⌝ }
+    ensures { λ r. ⌜ StatementReturned (accountIn (weights .entry) (marks .entry) (counts .entry)) (outputsIn (from .entry) (to .entry) (wh .entry)) r (accountIn (weights .exit) (marks .exit) (counts .exit)) (outputsIn (from .exit) (to .exit) (wh .exit)) ⌝ }
 {
     returned::statement(statement::statement(weights, marks, counts, from, to, wh))
 }
@@ -209,7 +209,7 @@ pub extern "C" fn arvadush_read(
     marks: &mut [u8],
     counts: &mut [u64],
 ) -> Outcome
-    ensures { λ r. ⌜ ReadReturned (now (file .entry)) (account (now (weights .entry)) (now (marks .entry)) (now (counts .entry))) r (account (now (weights .exit)) (now (marks .exit)) (now (counts .exit))) (now (file .exit)) ⌝ }
+    ensures { λ r. ⌜ ReadReturned (now (file .entry)) (accountIn (weights .entry) (marks .entry) (counts .entry)) r (accountIn (weights .exit) (marks .exit) (counts .exit)) (now (file .exit)) ⌝ }
 {
     returned::case(casefile::read_case(file, weights, marks, counts))
 }
@@ -223,7 +223,7 @@ pub extern "C" fn arvadush_statement_text(
     parts: usize,
     out: &mut [u8],
 ) -> usize
-    ensures { λ r. ⌜ TextMet (statementText (outputs (now (from .entry)) (now (to .entry)) (now (wh .entry))) parts) (now (out .entry)) r (now (out .exit)) (outputs (now (from .entry)) (now (to .entry)) (now (wh .entry))) (outputs (now (from .exit)) (now (to .exit)) (now (wh .exit))) ⌝ }
+    ensures { λ r. ⌜ TextMet (statementText (outputsIn (from .entry) (to .entry) (wh .entry)) parts) (now (out .entry)) r (now (out .exit)) (outputsIn (from .entry) (to .entry) (wh .entry)) (outputsIn (from .exit) (to .exit) (wh .exit)) ⌝ }
 {
     layout::statement_text(from, to, wh, parts, out)
 }

@@ -15,7 +15,7 @@ use Rattle.account.specs.Refusals.{accountRows, readingRows, withdrawRows, cutR
 use Rattle.account.specs.Calls.{readingPut, readingTaken, cutPut, cutTaken}
 use Rattle.account.proofs.Below.{every-at}
 use Rattle.account.proofs.Sound.{fit, sound-parts}
-use Rattle.account.proofs.Rows.{Checked}
+use Rattle.account.specs.Slices.{Checked}
 use Rattle.account.proofs.Keeps.{Holds, reading-keeps, withdraw-keeps, cut-keeps, uncut-keeps}
 use Rattle.history.specs.History.{after, standsFrom}
 use Rattle.history.specs.Run.{Event, Step, Run, call, accountAfter, answered, tableSays, standing}

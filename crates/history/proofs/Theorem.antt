@@ -13,7 +13,8 @@ use Rattle.account.specs.Refusals.{openNumber}
 use Rattle.account.specs.Calls.{OpenMet, number}
 use Rattle.account.proofs.Pairs.{pairs}
 use Rattle.account.proofs.Sound.{sound-parts}
-use Rattle.account.proofs.Rows.{Checked, row-none}
+use Rattle.account.specs.Slices.{Checked}
+use Rattle.account.proofs.Rows.{row-none}
 use Rattle.account.proofs.Keeps.{Holds, shown-inside, open-keeps}
 use Rattle.statement.specs.declared.StatementAnswer.the-variants.{Parts}
 use Rattle.statement.specs.Parts.{Outputs, parts, written}

@@ -1,4 +1,4 @@
--- What the contracts and claims of crate history cite (demand 3; Account and its calls).
+-- What the claims of crate history cite (demand 3; Account and its calls).
 pub mod History
 pub mod Run
 pub mod Demand3

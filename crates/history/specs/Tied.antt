@@ -1,14 +1,11 @@
 -- The calls of demand 3 are the crates' own functions: for each of the six, the contract as the toolchain reads it IS the step of `Run` (of
 -- open, the hypothesis of `Claim`), and so for the weights call; and none asks anything of its caller, "each entry point checks its own input".
 -- (proofs/Ties, `tied`: by `refl`, so a contract that is weakened breaks it)
-use Prim.Native.Nat.{ℕ}
 use mathlib.Core.Path.{_≡_}
-use mathlib.Core.List.{List}
 use contract.Lifetimes
 use borrow.Fn.Kinds
-use denote.Ref.{RefT, now}
-use denote.Triple.Clauses
-use Rattle.account.specs.Account.{Account, account}
+use denote.Ref.{now}
+use Rattle.account.specs.Account.{accountIn}
 use Rattle.account.specs.Calls.{OpenMet}
 use Rattle.account.proofs.open.Kinds as open-kinds
 use Rattle.account.proofs.open.Reads as open-reads
@@ -23,38 +20,31 @@ use Rattle.account.proofs.uncut.Reads as uncut-reads
 use Rattle.weights.specs.Weights.{WeightsMet}
 use Rattle.weights.proofs.weights.Kinds as weights-kinds
 use Rattle.weights.proofs.weights.Reads as weights-reads
-use Rattle.statement.specs.Parts.{Outputs, outputs}
+use Rattle.statement.specs.Parts.{outputsIn}
 use Rattle.statement.proofs.statement.Kinds as statement-kinds
 use Rattle.statement.proofs.statement.Reads as statement-reads
 use Rattle.history.specs.Run.{Step}
 use Rattle.history.specs.Run as run
 
--- the account, and the outputs, that three references lend
-abbrev lent : RefT (List ℕ) → RefT (List ℕ) → RefT (List ℕ) → Account
-lent w m c = account (now w) (now m) (now c)
-
-abbrev lentOut : RefT (List ℕ) → RefT (List ℕ) → RefT (List ℕ) → Outputs
-lentOut f t e = outputs (now f) (now t) (now e)
-
 -- a: what the function is given; r: what it answers; s: what its references show after it
 pub record Tied : Type 1 where
   pub open-is : (κs : Lifetimes.Lfts 3) (a : Kinds.Dens κs open-kinds.ps) (r : _) (s : _) →
-      open-reads.Post κs a r s ≡ OpenMet (lent (a .0) (a .1 .0) (a .1 .1 .0)) r (lent (s .0) (s .1 .0) (s .1 .1 .0))
+      open-reads.Post κs a r s ≡ OpenMet (accountIn (a .0) (a .1 .0) (a .1 .1 .0)) r (accountIn (s .0) (s .1 .0) (s .1 .1 .0))
   pub reading-is : (κs : Lifetimes.Lfts 3) (a : Kinds.Dens κs reading-kinds.ps) (r : _) (s : _) →
       reading-reads.Post κs a r s ≡
-      Step (lent (a .0) (a .1 .0) (a .1 .1 .0)) (run.reading (a .1 .1 .1 .0) (a .1 .1 .1 .1 .0) r (lent (s .0) (s .1 .0) (s .1 .1 .0)))
+      Step (accountIn (a .0) (a .1 .0) (a .1 .1 .0)) (run.reading (a .1 .1 .1 .0) (a .1 .1 .1 .1 .0) r (accountIn (s .0) (s .1 .0) (s .1 .1 .0)))
   pub withdraw-is : (κs : Lifetimes.Lfts 3) (a : Kinds.Dens κs withdraw-kinds.ps) (r : _) (s : _) →
       withdraw-reads.Post κs a r s ≡
-      Step (lent (a .0) (a .1 .0) (a .1 .1 .0)) (run.withdraw (a .1 .1 .1 .0) r (lent (s .0) (s .1 .0) (s .1 .1 .0)))
+      Step (accountIn (a .0) (a .1 .0) (a .1 .1 .0)) (run.withdraw (a .1 .1 .1 .0) r (accountIn (s .0) (s .1 .0) (s .1 .1 .0)))
   pub cut-is : (κs : Lifetimes.Lfts 3) (a : Kinds.Dens κs cut-kinds.ps) (r : _) (s : _) →
-      cut-reads.Post κs a r s ≡ Step (lent (a .0) (a .1 .0) (a .1 .1 .0)) (run.cut (a .1 .1 .1 .0) r (lent (s .0) (s .1 .0) (s .1 .1 .0)))
+      cut-reads.Post κs a r s ≡ Step (accountIn (a .0) (a .1 .0) (a .1 .1 .0)) (run.cut (a .1 .1 .1 .0) r (accountIn (s .0) (s .1 .0) (s .1 .1 .0)))
   pub uncut-is : (κs : Lifetimes.Lfts 3) (a : Kinds.Dens κs uncut-kinds.ps) (r : _) (s : _) →
-      uncut-reads.Post κs a r s ≡ Step (lent (a .0) (a .1 .0) (a .1 .1 .0)) (run.uncut (a .1 .1 .1 .0) r (lent (s .0) (s .1 .0) (s .1 .1 .0)))
+      uncut-reads.Post κs a r s ≡ Step (accountIn (a .0) (a .1 .0) (a .1 .1 .0)) (run.uncut (a .1 .1 .1 .0) r (accountIn (s .0) (s .1 .0) (s .1 .1 .0)))
   pub statement-is : (κs : Lifetimes.Lfts 6) (a : Kinds.Dens κs statement-kinds.ps) (r : _) (s : _) →
       statement-reads.Post κs a r s ≡
-      Step (lent (a .0) (a .1 .0) (a .1 .1 .0))
-      (run.statement (lentOut (a .1 .1 .1 .0) (a .1 .1 .1 .1 .0) (a .1 .1 .1 .1 .1 .0)) r (lent (s .0) (s .1 .0) (s .1 .1 .0))
-      (lentOut (s .1 .1 .1 .0) (s .1 .1 .1 .1 .0) (s .1 .1 .1 .1 .1 .0)))
+      Step (accountIn (a .0) (a .1 .0) (a .1 .1 .0))
+      (run.statement (outputsIn (a .1 .1 .1 .0) (a .1 .1 .1 .1 .0) (a .1 .1 .1 .1 .1 .0)) r (accountIn (s .0) (s .1 .0) (s .1 .1 .0))
+      (outputsIn (s .1 .1 .1 .0) (s .1 .1 .1 .1 .0) (s .1 .1 .1 .1 .1 .0)))
   pub weights-is : (κs : Lifetimes.Lfts 2) (a : Kinds.Dens κs weights-kinds.ps) (r : _) (s : _) →
       weights-reads.Post κs a r s ≡
       WeightsMet (a .0) (a .1 .0) (now (a .1 .1 .0)) (now (a .1 .1 .1 .0)) r (now (s .1 .1 .1 .0)) (now (s .1 .1 .0))

@@ -1,4 +1,4 @@
--- One-step laws for a pass over the parts: whether some part holds a test, the total, the lines. Assumes nothing.
+-- One-step laws for a pass over the parts (Case file): whether some part holds a test, the total, the lines. Assumes nothing.
 use mathlib.Core.Path.{_≡_, refl}
 use mathlib.Core.Bool.{Bool, _||_}
 use mathlib.Core.List.{[], _++_}

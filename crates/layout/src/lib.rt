@@ -12,8 +12,8 @@ ghost use lib.Dec.{ltb};
 ghost use lib.ListN.{length, getD};
 ghost use Rattle.profile.specs.Limits.{spanMost};
 ghost use Rattle.account.specs.Below.{somewhere};
-ghost use Rattle.account.specs.Account.{energyMost, account};
-ghost use Rattle.statement.specs.Parts.{outputs};
+ghost use Rattle.account.specs.Account.{energyMost, accountIn};
+ghost use Rattle.statement.specs.Parts.{outputs, outputsIn};
 ghost use Rattle.statement.specs.Shares.{total};
 ghost use Rattle.layout.specs.Text.{LaidOut, TextMet, statementText, refusalText, doneText, unknownText, lineOf, partLines, partsText};
 ghost use Rattle.layout.specs.Accounts.{accountText, answeredText, textMost};
@@ -47,7 +47,7 @@ pub fn unknown_text(line: usize, out: &mut [u8]) -> usize
 
 // The text of a statement of so many parts, at the start of out; nothing where no statement can be like that.
 pub fn statement_text(from: &[u16], to: &[u16], wh: &[u64], parts: usize, out: &mut [u8]) -> usize
-    ensures { λ r. ⌜ TextMet (statementText (outputs (now (from .entry)) (now (to .entry)) (now (wh .entry))) parts) (now (out .entry)) r (now (out .exit)) (outputs (now (from .entry)) (now (to .entry)) (now (wh .entry))) (outputs (now (from .exit)) (now (to .exit)) (now (wh .exit))) ⌝ }
+    ensures { λ r. ⌜ TextMet (statementText (outputsIn (from .entry) (to .entry) (wh .entry)) parts) (now (out .entry)) r (now (out .exit)) (outputsIn (from .entry) (to .entry) (wh .entry)) (outputsIn (from .exit) (to .exit) (wh .exit)) ⌝ }
 {
     if parts == 0 {
         return 0;
@@ -73,7 +73,7 @@ pub fn statement_text(from: &[u16], to: &[u16], wh: &[u64], parts: usize, out: &
 // The words, lines and sum of a statement, at the start of out.
 fn parts_text(from: &[u16], to: &[u16], wh: &[u64], parts: usize, sum: u64, out: &mut [u8]) -> usize
     requires { ⌜ (parts ≤ spanMost) × (parts ≤ length (now from)) × (parts ≤ length (now to)) × (parts ≤ length (now wh)) ⌝ }
-    ensures { λ r. ⌜ LaidOut 0 (partsText (outputs (now (from .entry)) (now (to .entry)) (now (wh .entry))) parts sum) (now (out .entry)) r (now (out .exit)) ⌝ }
+    ensures { λ r. ⌜ LaidOut 0 (partsText (outputsIn (from .entry) (to .entry) (wh .entry)) parts sum) (now (out .entry)) r (now (out .exit)) ⌝ }
 {
     let at = put::word(out, 0, b"parts ");
     let at = put::number(out, at, parts as u64, b'\n');
@@ -126,7 +126,7 @@ fn line(from: u16, to: u16, wh: u64, out: &mut [u8], at: usize) -> usize
 fn lines(from: &[u16], to: &[u16], wh: &[u64], parts: usize, out: &mut [u8], at: usize) -> usize
     requires { ⌜ (parts ≤ spanMost) × (parts ≤ length (now from)) × (parts ≤ length (now to)) × (parts ≤ length (now wh)) ⌝ }
     requires { ⌜ at ≤ 1000 ⌝ }
-    ensures { λ r. ⌜ LaidOut at (partLines (outputs (now (from .entry)) (now (to .entry)) (now (wh .entry))) parts) (now (out .entry)) r (now (out .exit)) ⌝ }
+    ensures { λ r. ⌜ LaidOut at (partLines (outputsIn (from .entry) (to .entry) (wh .entry)) parts) (now (out .entry)) r (now (out .exit)) ⌝ }
     ensures { λ r. ⌜ r ≤ at + 63 * parts ⌝ }
 {
     let mut next = at;
@@ -140,7 +140,7 @@ fn lines(from: &[u16], to: &[u16], wh: &[u64], parts: usize, out: &mut [u8], at:
 
 // The statement of an account or its refusal, at the start of out.
 pub fn account_text(weights: &[u32], marks: &[u8], counts: &[u64], out: &mut [u8]) -> usize
-    ensures { λ r. ⌜ TextMet (accountText (account (now (weights .entry)) (now (marks .entry)) (now (counts .entry)))) (now (out .entry)) r (now (out .exit)) (account (now (weights .entry)) (now (marks .entry)) (now (counts .entry))) (account (now (weights .exit)) (now (marks .exit)) (now (counts .exit))) ⌝ }
+    ensures { λ r. ⌜ TextMet (accountText (accountIn (weights .entry) (marks .entry) (counts .entry))) (now (out .entry)) r (now (out .exit)) (accountIn (weights .entry) (marks .entry) (counts .entry)) (accountIn (weights .exit) (marks .exit) (counts .exit)) ⌝ }
     ensures { λ r. do ⌜ (← ⟦TEXT_MOST⟧ .entry) ≡ textMost ⌝ }
 {
     if Profile::SPAN < weights.len() {
@@ -163,7 +163,7 @@ fn with_outputs(
     out: &mut [u8],
 ) -> usize
     requires { ⌜ (length (now weights) ≤ length (now from)) × (length (now weights) ≤ length (now to)) × (length (now weights) ≤ length (now wh)) ⌝ }
-    ensures { λ r. ⌜ LaidOut 0 (accountText (account (now (weights .entry)) (now (marks .entry)) (now (counts .entry)))) (now (out .entry)) r (now (out .exit)) ⌝ }
+    ensures { λ r. ⌜ LaidOut 0 (accountText (accountIn (weights .entry) (marks .entry) (counts .entry))) (now (out .entry)) r (now (out .exit)) ⌝ }
 {
     let n = weights.len();
     let answer = statement::statement(
@@ -179,7 +179,7 @@ fn with_outputs(
 
 // What a statement call answered and wrote, as text at the start of out.
 fn answered(answer: StatementAnswer, from: &[u16], to: &[u16], wh: &[u64], out: &mut [u8]) -> usize
-    ensures { λ r. ⌜ LaidOut 0 (answeredText answer (outputs (now (from .entry)) (now (to .entry)) (now (wh .entry)))) (now (out .entry)) r (now (out .exit)) ⌝ }
+    ensures { λ r. ⌜ LaidOut 0 (answeredText answer (outputsIn (from .entry) (to .entry) (wh .entry))) (now (out .entry)) r (now (out .exit)) ⌝ }
 {
     match answer {
         StatementAnswer::Parts(parts) => statement_text(from, to, wh, parts, out),

@@ -5,7 +5,7 @@ ghost use lib.ListN.{length};
 ghost use Rattle.layout.specs.Text.{LaidOut, decimal};
 
 // The byte b at offset at, where there is room; the next offset.
-pub(crate) fn byte(out: &mut [u8], at: usize, b: u8) -> usize
+fn byte(out: &mut [u8], at: usize, b: u8) -> usize
     requires { ⌜ at < 2 ^ 62 ⌝ }
     ensures { λ r. ⌜ LaidOut at (b ∷ []) (now (out .entry)) r (now (out .exit)) ⌝ }
 {

@@ -2,13 +2,11 @@
 -- Assumes nothing.
 use mathlib.Core.Path.{_≡_}
 use Prim.Native.Nat.{ℕ, _*_, _^_, _≤_, _<_}
-use native.Mathlib.Nat.{le-trans, le-of-mul-le-mul-right, one-le-pow}
 use native.Mathlib.Omega.{arith}
 use lib.Dec.{lit<}
 use borrow.Author.Tests.{ne-eqb, le-ltb}
 use Rattle.power.specs.declared.rounded.Rounding.the-variants.{Down, Up}
 use Rattle.power.specs.Power.{one, exponent, cLow, cHigh, pLow, pHigh, AtMost, AtLeast, Encloses, Enclosing, ofRatio, lowerOf, upperOf}
-use Rattle.power.proofs.Powers.{pow-cancel}
 use Rattle.power.proofs.Way.{Rounded, below, above, at-most, at-least}
 use Rattle.power.proofs.Quotient.{quotient-rounded}
 use Rattle.power.proofs.AtMostOne.{ratio-le, ratio-one, power-le, power-one}
@@ -40,10 +38,6 @@ module _ (N M C : ℕ) (pos : 0 < M) where
     pub high-le-one : pHigh N M C ≤ one
     unfolding pHigh
     high-le-one = power-le Up _ _ (ratio-le Up N M pos le)
-
-    pub low-le-high : pLow N M C ≤ pHigh N M C
-    unfolding AtMost AtLeast
-    low-le-high = pow-cancel (10 ^ 7) (lit< tt) (le-of-mul-le-mul-right (le-trans (enclosed .below) (enclosed .above)) (one-le-pow C M pos))
 
     of-ratio : (p : ℕ) → ofRatio N M p ≡ p
     unfolding ofRatio

@@ -4,6 +4,7 @@ ghost use Prim.Native.Nat.{_+_, _*_, _^_, _≤_, _<_};
 ghost use Rattle.power.specs.Power as spec;
 ghost use Rattle.power.specs.Power.{one};
 
+// The paper's one, 2^30.
 pub const ONE: u64 = 1 << 30;
 
 pub(crate) enum Rounding {

@@ -9,7 +9,7 @@ use layout::TEXT_MOST;
 use profile::Profile;
 ghost use mathlib.Core.Path.{_≡_};
 ghost use lib.ListN.{length, take};
-ghost use Rattle.account.specs.Account.{account};
+ghost use Rattle.account.specs.Account.{accountIn};
 ghost use Rattle.casefile.specs.Reader.{slicesAfter};
 ghost use Rattle.report.specs.Report.{fileText};
 
@@ -21,7 +21,7 @@ pub fn print_case(
     counts: &mut [u64; Profile::SPAN + 1],
 ) -> Printed
     ensures { λ r. ⌜ r .bytes ≡ length (fileText (take (r .input .read) (r .input .buffer))) ⌝ }
-    ensures { λ r. ⌜ account (now (weights .exit)) (now (marks .exit)) (now (counts .exit)) ≡ slicesAfter (take (r .input .read) (r .input .buffer)) (account (now (weights .entry)) (now (marks .entry)) (now (counts .entry))) ⌝ }
+    ensures { λ r. ⌜ accountIn (weights .exit) (marks .exit) (counts .exit) ≡ slicesAfter (take (r .input .read) (r .input .buffer)) (accountIn (weights .entry) (marks .entry) (counts .entry)) ⌝ }
 {
     let input = read(fd);
     let mut text = [0u8; TEXT_MOST];

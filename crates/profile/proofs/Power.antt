@@ -1,4 +1,4 @@
--- The two powers of a profile value at a temperature in range: N / M is a ratio at most one, so what crate `power` promises holds of it. Assumes nothing.
+-- The two powers of a profile value at a temperature in range (Profile value): N / M is a ratio at most one, so what crate `power` promises holds of it. Assumes nothing.
 use mathlib.Core.Path.{_≡_}
 use mathlib.Core.Bool.{Bool, true, false, cond, not}
 use Prim.Native.Nat.{ℕ, _≤_, _<_}

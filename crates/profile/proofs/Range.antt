@@ -1,4 +1,4 @@
--- What a temperature in range is: between the two limits, and less than 4,000. Assumes nothing.
+-- What a temperature in range is (Profile value): between the two limits, and less than 4,000. Assumes nothing.
 use mathlib.Core.Path.{_≡_}
 use mathlib.Core.Bool.{Bool, true, false, _&&_, false≢true}
 use Prim.Native.Nat.{_≤_}

@@ -1,4 +1,4 @@
--- The table of ten profiles, tested once by computation: what every profile of it has. Assumes nothing.
+-- The table of ten profiles (Profiles), tested once by computation: what every profile of it has. Assumes nothing.
 use mathlib.Core.Path.{_≡_, refl}
 use mathlib.Core.Bool.{Bool, true, false, _&&_}
 use mathlib.Core.List.{List, [], _∷_}

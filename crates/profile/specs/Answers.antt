@@ -18,14 +18,14 @@ use Rattle.profile.specs.declared.WeightAnswer.the-variants as Weighed
 
 -- ---- profile by number
 abbrev pub profileNumber : ℕ → ℕ
-profileNumber k =
-    row (leb profileCount k) 1  -- profile above 9
+profileNumber profile =
+    row (leb profileCount profile) 1  -- profile above 9
     0
 
-pub record ByNumberMet (k : ℕ) (r : Numbered) : Type 0 where
-  pub answers : r .refusal ≡ profileNumber k
-  pub gives : r .profile ≡ profileOf k
-  pub week : profileNumber k ≡ 0 → sumOf (r .profile .factors) ≡ 70_000
+pub record ByNumberMet (profile : ℕ) (r : Numbered) : Type 0 where
+  pub answers : r .refusal ≡ profileNumber profile
+  pub gives : r .profile ≡ profileOf profile
+  pub week : profileNumber profile ≡ 0 → sumOf (r .profile .factors) ≡ 70_000
 
 -- the limits, as the code names them
 pub record LimitsMet (cold warm : ℤ) (span count : ℕ) : Type 0 where
@@ -40,8 +40,8 @@ pub record WeightLimitsMet (least most : ℕ) : Type 0 where
 
 -- ---- profile value
 abbrev pub valueNumber : ℕ → ℤ → ℕ
-valueNumber k t =
-    row (leb profileCount k) 1  -- profile above 9
+valueNumber profile t =
+    row (leb profileCount profile) 1  -- profile above 9
     (row (not (inRange t)) 4  -- first mean out of range
     0)
 
@@ -66,17 +66,17 @@ highGiven (Valued.Value low high) = high
 highGiven Valued.NoProfile = pos 0
 highGiven (Valued.OutOfRange k) = pos 0
 
-pub record ValueMet (k : ℕ) (t : ℤ) (r : ValueAnswer) : Type 0 where
-  pub answers : valueAnswered r ≡ valueNumber k t
+pub record ValueMet (profile : ℕ) (t : ℤ) (r : ValueAnswer) : Type 0 where
+  pub answers : valueAnswered r ≡ valueNumber profile t
   pub places : valuePlaced r ≡ 0
-  pub low : lowGiven r ≡ ifDone (valueNumber k t) (valueLow (profileOf k) t) (pos 0)
-  pub high : highGiven r ≡ ifDone (valueNumber k t) (valueHigh (profileOf k) t) (pos 0)
-  pub powers-enclose : valueNumber k t ≡ 0 → EnclosedPower (profileOf k) t
+  pub low : lowGiven r ≡ ifDone (valueNumber profile t) (valueLow (profileOf profile) t) (pos 0)
+  pub high : highGiven r ≡ ifDone (valueNumber profile t) (valueHigh (profileOf profile) t) (pos 0)
+  pub powers-enclose : valueNumber profile t ≡ 0 → EnclosedPower (profileOf profile) t
 
 -- ---- day weight
 abbrev pub weightNumber : ℕ → ℕ → ℤ → ℕ
-weightNumber k weekday t =
-    row (leb profileCount k) 1  -- profile above 9
+weightNumber profile weekday t =
+    row (leb profileCount profile) 1  -- profile above 9
     (row (ltb 6 weekday) 2  -- weekday above 6
     (row (not (inRange t)) 4  -- first mean out of range
     0))
@@ -100,10 +100,10 @@ weightGiven Weighed.NoProfile = 0
 weightGiven Weighed.NoWeekday = 0
 weightGiven (Weighed.OutOfRange k) = 0
 
-pub record WeightMet (k weekday : ℕ) (t : ℤ) (r : WeightAnswer) : Type 0 where
-  pub answers : weightAnswered r ≡ weightNumber k weekday t
+pub record WeightMet (profile weekday : ℕ) (t : ℤ) (r : WeightAnswer) : Type 0 where
+  pub answers : weightAnswered r ≡ weightNumber profile weekday t
   pub places : weightPlaced r ≡ 0
-  pub gives : weightGiven r ≡ ifDone (weightNumber k weekday t) (weightOf k weekday t) 0
-  pub floored : weightNumber k weekday t ≡ 0 → floorWeight k weekday t ≡ pos (weightGiven r)
-  pub least : weightNumber k weekday t ≡ 0 → weightLeast ≤ weightGiven r
-  pub most : weightNumber k weekday t ≡ 0 → weightGiven r ≤ weightMost
+  pub gives : weightGiven r ≡ ifDone (weightNumber profile weekday t) (weightOf profile weekday t) 0
+  pub floored : weightNumber profile weekday t ≡ 0 → floorWeight profile weekday t ≡ pos (weightGiven r)
+  pub least : weightNumber profile weekday t ≡ 0 → weightLeast ≤ weightGiven r
+  pub most : weightNumber profile weekday t ≡ 0 → weightGiven r ≤ weightMost

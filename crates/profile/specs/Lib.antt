@@ -1,8 +1,8 @@
--- What the contracts of crate profile cite (Profiles, Profile value, If a call declines).
+-- What the contracts and claims of crate profile cite (Profiles, Profile value, If a call declines).
 pub mod Limits
 pub mod Rows
 pub mod Coefficients
 pub mod Value
-pub mod Steps
 pub mod Weight
 pub mod Answers
+pub mod Steps

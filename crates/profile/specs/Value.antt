@@ -32,14 +32,6 @@ lowPower p t = pLow (ratioN p t) (ratioM p t) (p .c)
 abbrev pub highPower : Profile → ℤ → ℕ
 highPower p t = pHigh (ratioN p t) (ratioM p t) (p .c)
 
--- the powers enclose the exact one
-abbrev pub EnclosedPower : Profile → ℤ → Type 0
-EnclosedPower p t = Encloses (ratioN p t) (ratioM p t) (p .c) (lowPower p t) (highPower p t)
-
--- no ratio is above one, and the powers enclose, whatever eight coefficients a profile has (proofs/Power, `any-profile`)
-abbrev pub AnyProfile : Type 0
-AnyProfile = (p : Profile) (t : ℤ) → inRange t ≡ true → (0 < ratioM p t) × (ratioN p t ≤ ratioM p t) × EnclosedPower p t
-
 -- "Share s: cold, sLow = floor(2^60 / (one + pHigh)), sHigh is 2^60 / (one + pLow) rounded up;
 -- warm, sLow = floor(pLow × one / (one + pLow)), sHigh the same with pHigh, rounded up."
 abbrev pub sLow : Profile → ℤ → ℕ
@@ -71,3 +63,11 @@ valueLow p t = pos (p .a * 100 * sLow p t / one) +ℤ linear p t
 
 unfoldable pub valueHigh : Profile → ℤ → ℤ
 valueHigh p t = pos (upward (p .a * 100 * sHigh p t) one) +ℤ linear p t
+
+-- "The exact power y is the number with y^(10^7) = (N/M)^C": the powers enclose it
+abbrev pub EnclosedPower : Profile → ℤ → Type 0
+EnclosedPower p t = Encloses (ratioN p t) (ratioM p t) (p .c) (lowPower p t) (highPower p t)
+
+-- no ratio is above one, and the powers enclose, whatever eight coefficients a profile has (proofs/Power, `any-profile`)
+abbrev pub AnyProfile : Type 0
+AnyProfile = (p : Profile) (t : ℤ) → inRange t ≡ true → (0 < ratioM p t) × (ratioN p t ≤ ratioM p t) × EnclosedPower p t

@@ -25,18 +25,18 @@ OneFloor = (x : ℤ) (d : ℕ) → 0 < d → IsFloor x d (floorℤ x d) × ((q :
 
 -- the factor F of a profile's weekday, Monday 0 to Sunday 6
 abbrev pub factorOf : ℕ → ℕ → ℕ
-factorOf k weekday = getD (profileOf k .factors) weekday 0
+factorOf profile weekday = getD (profileOf profile .factors) weekday 0
 
--- the weight of profile k on a weekday at temperature t, as an integer
+-- the weight of a profile on a weekday at temperature t, as an integer
 abbrev pub floorWeight : ℕ → ℕ → ℤ → ℤ
-floorWeight k weekday t = floorℤ (valueLow (profileOf k) t *ℤ pos (factorOf k weekday)) 10_000_000
+floorWeight profile weekday t = floorℤ (valueLow (profileOf profile) t *ℤ pos (factorOf profile weekday)) 10_000_000
 
 -- the same as a natural number: no weight of the table is below zero (`WholeTable`)
 unfoldable pub weightOf : ℕ → ℕ → ℤ → ℕ
-weightOf k weekday t = natAbs (floorWeight k weekday t)
+weightOf profile weekday t = natAbs (floorWeight profile weekday t)
 
 -- "Every weight that the table can give is 1 to 6,999,999, shown over the whole table" (proofs/Bounds, `whole-table`)
 abbrev pub WholeTable : Type 0
 WholeTable =
-    (k weekday : ℕ) (t : ℤ) → k < profileCount → weekday < 7 → inRange t ≡ true →
-    (floorWeight k weekday t ≡ pos (weightOf k weekday t)) × (weightLeast ≤ weightOf k weekday t) × (weightOf k weekday t ≤ weightMost)
+    (profile weekday : ℕ) (t : ℤ) → profile < profileCount → weekday < 7 → inRange t ≡ true →
+    (floorWeight profile weekday t ≡ pos (weightOf profile weekday t)) × (weightLeast ≤ weightOf profile weekday t) × (weightOf profile weekday t ≤ weightMost)

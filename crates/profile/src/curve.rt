@@ -121,7 +121,7 @@ fn ratio_at(p: Profile, t: i16) -> Ratio
     }
 }
 
-// At 64 bits, where every negation fits.
+// |x|, formed at 64 bits, where every negation fits.
 fn magnitude(x: i32) -> u32
     ensures { λ r. ⌜ r ≡ natAbs x ⌝ }
 {

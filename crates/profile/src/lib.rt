@@ -69,12 +69,12 @@ impl Profile {
     pub const COUNT: u8 = 10;
 
     // The profile of a number, 0 to 9.
-    pub fn by_number(n: u8) -> Numbered
-        ensures { λ r. ⌜ ByNumberMet n r ⌝ }
+    pub fn by_number(number: u8) -> Numbered
+        ensures { λ r. ⌜ ByNumberMet number r ⌝ }
         ensures { λ r. do ⌜ LimitsMet (← ⟦Profile::COLDEST⟧ .entry) (← ⟦Profile::WARMEST⟧ .entry) (← ⟦Profile::SPAN⟧ .entry) (← ⟦Profile::COUNT⟧ .entry) ⌝ }
         ensures { λ r. do ⌜ WeightLimitsMet (← ⟦Profile::WEIGHT_LEAST⟧ .entry) (← ⟦Profile::WEIGHT_MOST⟧ .entry) ⌝ }
     {
-        if Profile::COUNT <= n {
+        if Profile::COUNT <= number {
             return Numbered {
                 refusal: 1,
                 profile: NO_PROFILE,
@@ -82,7 +82,7 @@ impl Profile {
         }
         Numbered {
             refusal: 0,
-            profile: table::profile_at(n),
+            profile: table::profile_at(number),
         }
     }
 }

@@ -6,14 +6,14 @@ use layout::refusal_text;
 ghost use Prim.Native.Nat.{_≤_, _+_};
 ghost use lib.ListN.{length, take};
 ghost use mathlib.Core.Path.{_≡_};
-ghost use Rattle.account.specs.Account.{account};
+ghost use Rattle.account.specs.Account.{account, accountIn};
 ghost use Rattle.casefile.specs.Length.{bytesRead};
 ghost use Rattle.layout.specs.Text.{LaidOut};
 ghost use Rattle.layout.specs.Accounts.{accountText};
 ghost use Rattle.report.specs.Report.{CaseTextMet};
 
 // Reading no more of a file than this never changes the verdict.
-pub const FILE_READ: usize = 16_384;
+pub const BYTES_READ: usize = 16_384;
 
 // The text of a case file, which is read into slices of lengths 1,096, 1,097 and 1,097: its statement or its refusal, at the start of out.
 pub fn case_text(
@@ -23,8 +23,8 @@ pub fn case_text(
     counts: &mut [u64],
     out: &mut [u8],
 ) -> usize
-    ensures { λ r. ⌜ CaseTextMet (now (file .entry)) (account (now (weights .entry)) (now (marks .entry)) (now (counts .entry))) (now (out .entry)) r (account (now (weights .exit)) (now (marks .exit)) (now (counts .exit))) (now (out .exit)) (now (file .exit)) ⌝ }
-    ensures { λ r. do ⌜ (← ⟦FILE_READ⟧ .entry) ≡ bytesRead ⌝ }
+    ensures { λ r. ⌜ CaseTextMet (now (file .entry)) (accountIn (weights .entry) (marks .entry) (counts .entry)) (now (out .entry)) r (accountIn (weights .exit) (marks .exit) (counts .exit)) (now (out .exit)) (now (file .exit)) ⌝ }
+    ensures { λ r. do ⌜ (← ⟦BYTES_READ⟧ .entry) ≡ bytesRead ⌝ }
 {
     let answer = read_case(file, weights, marks, counts);
     match answer {

@@ -1,4 +1,4 @@
--- The laws of nearest that its users need: within a half, the only such number, exact at multiples, monotone. Assumes nothing.
+-- The laws of nearest that its users need (the paper's first paragraph): within a half, the only such number, exact at multiples, monotone. Assumes nothing.
 use mathlib.Core.Path.{_≡_, sym}
 use Prim.Native.Nat.{ℕ, zero, suc, _+_, _*_, _/_, _≤_, _<_}
 use native.Mathlib.Nat.{div-mul-le-self, lt-div-mul-add, div-eq-of-lt-le, div-zero, le-div-iff-mul-le}

@@ -1,4 +1,4 @@
--- The digits of a word from an offset on, and what they make of it. Assumes nothing.
+-- The digits of a word from an offset on (docs/GUIDE.md, The console), and what they make of it. Assumes nothing.
 use Prim.Native.Nat.{ℕ, zero, suc, _+_, _-_, _*_, _≤_, _<_}
 use mathlib.Core.Path.{_≡_, refl, ap}
 use mathlib.Core.Bool.{Bool, true, false, cond, not, _&&_, and-false}

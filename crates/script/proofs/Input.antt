@@ -1,4 +1,4 @@
--- The whole lines of an input within a limit. Assumes nothing.
+-- The whole lines of an input within a limit (docs/GUIDE.md, The console). Assumes nothing.
 use Prim.Native.Nat.{ℕ, zero, suc, _+_, _-_, _≤_, _<_}
 use mathlib.Core.Path.{_≡_, refl, sym, ap, ap₂, _∙_}
 use mathlib.Core.Bool.{Bool, true, false, cond}

@@ -1,4 +1,4 @@
--- What a call is by its numbers, once they are read. Assumes nothing.
+-- What a call is by its numbers (docs/GUIDE.md, The console), once they are read. Assumes nothing.
 use Prim.Native.Nat.{ℕ, _+_, _<_}
 use mathlib.Core.Path.{_≡_, refl, ap, _∙_}
 use mathlib.Core.List.{List, [], _∷_}

@@ -1,4 +1,4 @@
--- Storing the values of a line's words one by one. Assumes nothing.
+-- Storing the values of a line's words one by one (docs/GUIDE.md, The console). Assumes nothing.
 use Prim.Native.Nat.{ℕ, _+_, _≤_, _<_}
 use mathlib.Core.Path.{_≡_, refl, ap, _∙_}
 use mathlib.Core.Bool.{Bool, true, false}

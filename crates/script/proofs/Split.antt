@@ -1,4 +1,4 @@
--- The next byte from an offset, and what a line's words are from an offset on. Assumes nothing.
+-- The next byte from an offset (docs/GUIDE.md, The console), and what a line's words are from an offset on. Assumes nothing.
 use Prim.Native.Nat.{ℕ, suc, _+_, _-_, _≤_, _<_}
 use mathlib.Core.Path.{_≡_, refl, ap, _∙_}
 use mathlib.Core.Bool.{Bool, true, false, cond, _&&_, and-false}

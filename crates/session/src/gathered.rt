@@ -3,7 +3,7 @@ use crate::Said;
 use crate::step;
 ghost use Prim.Native.Nat.{_+_, _-_, _≤_};
 ghost use lib.ListN.{length, take, drop};
-ghost use Rattle.account.specs.Account.{account};
+ghost use Rattle.account.specs.Account.{accountIn};
 ghost use Rattle.layout.specs.Accounts.{textMost};
 ghost use Rattle.session.specs.Lines.{session};
 ghost use Rattle.session.specs.Transcript.{GatheredMet};
@@ -22,7 +22,7 @@ pub(crate) fn gather(
     filled: usize,
 ) -> Said
     requires { ⌜ (at ≤ end) × (end ≤ length (now text)) × (filled + textMost ≤ length (now out)) ⌝ }
-    ensures { λ r. ⌜ GatheredMet (take (end - at) (drop at (now (text .entry)))) number (session days (account (now (weights .entry)) (now (marks .entry)) (now (counts .entry)))) (now (out .entry)) filled r (account (now (weights .exit)) (now (marks .exit)) (now (counts .exit))) (now (out .exit)) ⌝ }
+    ensures { λ r. ⌜ GatheredMet (take (end - at) (drop at (now (text .entry)))) number (session days (accountIn (weights .entry) (marks .entry) (counts .entry))) (now (out .entry)) filled r (accountIn (weights .exit) (marks .exit) (counts .exit)) (now (out .exit)) ⌝ }
 {
     step(
         &text[at..end],

@@ -15,9 +15,10 @@ use profile::Profile;
 use script::Call;
 use script::Command;
 ghost use mathlib.Core.Path.{_≡_};
-ghost use mathlib.Core.Bool.{cond, _&&_};
-ghost use lib.Dec.{eqb, ltb};
-ghost use Rattle.account.specs.Account.{account};
+ghost use mathlib.Core.Bool.{_&&_};
+ghost use lib.Dec.{ltb};
+ghost use Rattle.profile.specs.Rows.{ifDone};
+ghost use Rattle.account.specs.Account.{accountIn};
 ghost use Rattle.layout.specs.Text.{LaidOut};
 ghost use Rattle.layout.specs.Accounts.{accountText};
 ghost use Rattle.session.specs.Buffers.{held};
@@ -58,7 +59,7 @@ pub fn run(
     counts: &mut [u64],
     out: &mut [u8],
 ) -> Ran
-    ensures { λ r. ⌜ RunMet (now (text .entry)) at done (session days (account (now (weights .entry)) (now (marks .entry)) (now (counts .entry)))) (now (out .entry)) r (account (now (weights .exit)) (now (marks .exit)) (now (counts .exit))) (now (out .exit)) (now (text .exit)) ⌝ }
+    ensures { λ r. ⌜ RunMet (now (text .entry)) at done (session days (accountIn (weights .entry) (marks .entry) (counts .entry))) (now (out .entry)) r (accountIn (weights .exit) (marks .exit) (counts .exit)) (now (out .exit)) (now (text .exit)) ⌝ }
 {
     let mut at = at;
     let mut done = done;
@@ -114,7 +115,7 @@ pub(crate) fn step(
     counts: &mut [u64],
     out: &mut [u8],
 ) -> Said
-    ensures { λ r. ⌜ StepMet (now (line .entry)) number (session days (account (now (weights .entry)) (now (marks .entry)) (now (counts .entry)))) (now (out .entry)) r (account (now (weights .exit)) (now (marks .exit)) (now (counts .exit))) (now (out .exit)) ⌝ }
+    ensures { λ r. ⌜ StepMet (now (line .entry)) number (session days (accountIn (weights .entry) (marks .entry) (counts .entry))) (now (out .entry)) r (accountIn (weights .exit) (marks .exit) (counts .exit)) (now (out .exit)) ⌝ }
 {
     let command = script::parse(line);
     match command {
@@ -142,7 +143,7 @@ pub(crate) fn step(
 
 // The answer of opening an account, and the days after it.
 fn open_answer(opened: Opened, days: usize, out: &mut [u8]) -> Said
-    ensures { λ r. ⌜ LaidOut 0 (answerText (opened .number) (opened .place)) (now (out .entry)) (r .length) (now (out .exit)) × (r .days ≡ cond (eqb (opened .number) 0) (opened .days) days) ⌝ }
+    ensures { λ r. ⌜ LaidOut 0 (answerText (opened .number) (opened .place)) (now (out .entry)) (r .length) (now (out .exit)) × (r .days ≡ ifDone (opened .number) (opened .days) days) ⌝ }
 {
     let number = opened.number;
     let length = answer_text(number, opened.place, out);
@@ -157,7 +158,7 @@ fn open_answer(opened: Opened, days: usize, out: &mut [u8]) -> Said
 
 // A call that can change what stands, on the account that the buffers hold: the number of its answer.
 fn change(call: Call, days: usize, weights: &[u32], marks: &mut [u8], counts: &mut [u64]) -> u8
-    ensures { λ r. ⌜ ChangeMet days call (account (now (weights .entry)) (now (marks .entry)) (now (counts .entry))) r (account (now (weights .exit)) (now (marks .exit)) (now (counts .exit))) ⌝ }
+    ensures { λ r. ⌜ ChangeMet days call (accountIn (weights .entry) (marks .entry) (counts .entry)) r (accountIn (weights .exit) (marks .exit) (counts .exit)) ⌝ }
 {
     let n = days_of(days, weights.len());
     let m = boundaries(days, marks.len());
@@ -167,7 +168,7 @@ fn change(call: Call, days: usize, weights: &[u32], marks: &mut [u8], counts: &m
 
 // The same on an account itself.
 fn on_account(call: Call, weights: &[u32], marks: &mut [u8], counts: &mut [u64]) -> u8
-    ensures { λ r. ⌜ CallMet call (account (now (weights .entry)) (now (marks .entry)) (now (counts .entry))) r (account (now (weights .exit)) (now (marks .exit)) (now (counts .exit))) ⌝ }
+    ensures { λ r. ⌜ CallMet call (accountIn (weights .entry) (marks .entry) (counts .entry)) r (accountIn (weights .exit) (marks .exit) (counts .exit)) ⌝ }
 {
     match call {
         Call::Reading(k, count) => number_of(account::reading(weights, marks, counts, k, count)),
@@ -179,7 +180,7 @@ fn on_account(call: Call, weights: &[u32], marks: &mut [u8], counts: &mut [u64])
 
 // An account over the weights of a `weights` line.
 fn open_weights(line: &[u8], weights: &mut [u32], marks: &mut [u8], counts: &mut [u64]) -> Opened
-    ensures { λ r. ⌜ OpenedMet (weightsOffer (now (line .entry))) (account (now (weights .entry)) (now (marks .entry)) (now (counts .entry))) r (account (now (weights .exit)) (now (marks .exit)) (now (counts .exit))) ⌝ }
+    ensures { λ r. ⌜ OpenedMet (weightsOffer (now (line .entry))) (accountIn (weights .entry) (marks .entry) (counts .entry)) r (accountIn (weights .exit) (marks .exit) (counts .exit)) ⌝ }
 {
     let mut fresh = [0u32; Profile::SPAN];
     let n = script::weights(line, &mut fresh);
@@ -198,7 +199,7 @@ fn open_days(
     marks: &mut [u8],
     counts: &mut [u64],
 ) -> Opened
-    ensures { λ r. ⌜ OpenedMet (daysOffer profile weekday (now (line .entry))) (account (now (weights .entry)) (now (marks .entry)) (now (counts .entry))) r (account (now (weights .exit)) (now (marks .exit)) (now (counts .exit))) ⌝ }
+    ensures { λ r. ⌜ OpenedMet (daysOffer profile weekday (now (line .entry))) (accountIn (weights .entry) (marks .entry) (counts .entry)) r (accountIn (weights .exit) (marks .exit) (counts .exit)) ⌝ }
 {
     let mut means = [0i16; Profile::SPAN + 3];
     let n = script::means(line, &mut means);
@@ -219,7 +220,7 @@ fn open_days(
 
 // The statement of the account that the buffers hold, or its refusal, at the start of out.
 fn statement(days: usize, weights: &[u32], marks: &[u8], counts: &[u64], out: &mut [u8]) -> usize
-    ensures { λ r. ⌜ LaidOut 0 (accountText (held days (account (now (weights .entry)) (now (marks .entry)) (now (counts .entry))))) (now (out .entry)) r (now (out .exit)) ⌝ }
+    ensures { λ r. ⌜ LaidOut 0 (accountText (held days (accountIn (weights .entry) (marks .entry) (counts .entry)))) (now (out .entry)) r (now (out .exit)) ⌝ }
 {
     let n = days_of(days, weights.len());
     let m = boundaries(days, marks.len());

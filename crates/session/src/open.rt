@@ -9,7 +9,7 @@ ghost use mathlib.Core.List.{_++_};
 ghost use Prim.Native.Nat.{_≤_, _-_};
 ghost use lib.ListN.{length, take, drop, replicate};
 ghost use Rattle.profile.specs.Limits.{spanMost};
-ghost use Rattle.account.specs.Account.{account};
+ghost use Rattle.account.specs.Account.{accountIn};
 ghost use Rattle.weights.specs.Weights.{ruling, number, place};
 ghost use Rattle.session.specs.Calls.{offered, OpenedMet};
 
@@ -22,7 +22,7 @@ pub(crate) fn over(
     counts: &mut [u64],
 ) -> Opened
     requires { ⌜ n ≤ length (now fresh) ⌝ }
-    ensures { λ r. ⌜ OpenedMet (offered (take n (now (fresh .entry)))) (account (now (weights .entry)) (now (marks .entry)) (now (counts .entry))) r (account (now (weights .exit)) (now (marks .exit)) (now (counts .exit))) ⌝ }
+    ensures { λ r. ⌜ OpenedMet (offered (take n (now (fresh .entry)))) (accountIn (weights .entry) (marks .entry) (counts .entry)) r (accountIn (weights .exit) (marks .exit) (counts .exit)) ⌝ }
 {
     if weights.len() < n {
         return refused(3, 0);
@@ -52,7 +52,7 @@ pub(crate) fn over_means(
     counts: &mut [u64],
 ) -> Opened
     requires { ⌜ spanMost ≤ length (now fresh) ⌝ }
-    ensures { λ r. ⌜ OpenedMet (ruling profile weekday (now (means .entry)) (replicate (length (now (means .entry)) - 3) 0)) (account (now (weights .entry)) (now (marks .entry)) (now (counts .entry))) r (account (now (weights .exit)) (now (marks .exit)) (now (counts .exit))) ⌝ }
+    ensures { λ r. ⌜ OpenedMet (ruling profile weekday (now (means .entry)) (replicate (length (now (means .entry)) - 3) 0)) (accountIn (weights .entry) (marks .entry) (counts .entry)) r (accountIn (weights .exit) (marks .exit) (counts .exit)) ⌝ }
 {
     if means.len() < 4 {
         return refused(3, 0);

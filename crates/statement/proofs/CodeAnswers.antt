@@ -9,13 +9,14 @@ use lib.ListN.{length, replicate}
 use borrow.Author.Tests.{ne-eqb, eq-eqb, lt-ltb, le-ltb}
 use Rattle.account.specs.Below.{howMany}
 use Rattle.account.specs.Account.{Account, days, shown, unfit, sound}
-use Rattle.account.specs.Slices.{readsAt}
+use Rattle.account.specs.Slices.{Checked, readsAt}
 use Rattle.profile.specs.Rows.{row}
 use Rattle.account.specs.Refusals.{accountRows}
+use Rattle.account.proofs.Rows as rows
 use Rattle.statement.specs.declared.StatementAnswer.the-variants.{Parts, Unfit, Unsound, TooFewReadings}
 use Rattle.statement.specs.Parts.{Outputs}
 use Rattle.statement.specs.Call.{StatementMet, unfitOutputs, zeroed}
-use Rattle.statement.specs.Progress.{Checked, Fillable, Filled}
+use Rattle.statement.specs.Progress.{Fillable, Filled}
 use Rattle.statement.proofs.CodeSound.{checked-fit}
 use Rattle.statement.proofs.CodeWritten.{Long, outputs-same}
 
@@ -30,13 +31,8 @@ unsound-by true s h k = absurd (h refl)
 unsound-by false true h k = absurd (k refl)
 unsound-by false false h k = (refl, refl)
 
-checked-by : (u s : Bool) → _≡_ {A = ℕ} (row u 3 (row (not s) 5 0)) 0 → (u ≡ false) × (s ≡ true)
-checked-by true s h = absurd (omega arith)
-checked-by false true h = (refl, refl)
-checked-by false false h = absurd (omega arith)
-
 pub checked : (a : Account) (r : ℕ) → r ≡ accountRows a 0 → r ≡ 0 → Checked a
-checked a r is none = let b = checked-by (unfit a) (sound a) (sym is ∙ none) in record { fits = b .0; good = b .1 }
+checked a r is none = rows.checked a 0 (sym is ∙ none)
 
 -- the readings of all boundaries, 0 to n
 pub counted : (a : Account) → Checked a → (r : ℕ) → r ≡ howMany (readsAt (a .marks)) (length (a .marks)) → r ≡ howMany (shown a .readings .at) (suc (days a))
@@ -72,13 +68,13 @@ module _ (a : Account) (o : Outputs) where
   met-few l c few o′ clear =
       let f = long-fit (days a) o l in
       let less = lt-ltb _ _ few in
-      record { answers = rw (c .fits, f, c .good, less); gives = rw (c .fits, f, c .good, less); stays = refl; writes = rw (c .fits, f, c .good, less) clear }
+      record { answers = rw (c .fits, f, c .sound, less); gives = rw (c .fits, f, c .sound, less); stays = refl; writes = rw (c .fits, f, c .sound, less) clear }
 
   pub met-parts : Long (days a) o → Checked a → 2 ≤ howMany (shown a .readings .at) (suc (days a)) → (o′ : Outputs) (r : ℕ) → Filled a o′ r → StatementMet a o (Parts r) a o′
   met-parts l c some o′ r h =
       let f = long-fit (days a) o l in
       let more = le-ltb _ _ some in
-      record { answers = rw (c .fits, f, c .good, more); gives = rw (c .fits, f, c .good, more) (h .how-many); stays = refl; writes = rw (c .fits, f, c .good, more) (h .holds) }
+      record { answers = rw (c .fits, f, c .sound, more); gives = rw (c .fits, f, c .sound, more) (h .how-many); stays = refl; writes = rw (c .fits, f, c .sound, more) (h .holds) }
 
   pub ready : Long (days a) o → Checked a → 2 ≤ howMany (shown a .readings .at) (suc (days a)) → (o′ : Outputs) → o′ ≡ zeroed o → Fillable a o′
   ready l c some o′ clear =

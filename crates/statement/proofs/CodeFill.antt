@@ -8,11 +8,11 @@ use native.Mathlib.Omega.{arith}
 use lib.ListN.{getD}
 use Rattle.account.specs.Below.{howMany, last}
 use Rattle.account.specs.Account.{Account, days, shown}
-use Rattle.account.specs.Slices.{Fit}
+use Rattle.account.specs.Slices.{Checked, Fit}
 use Rattle.account.proofs.Below.{IsFirst, IsLast, clash, found, first-is, last-is}
 use Rattle.statement.specs.declared.Progress.{Progress}
 use Rattle.statement.specs.Parts.{Outputs}
-use Rattle.statement.specs.Progress.{NextReading, Checked, Interval, Written, Fillable, Filled}
+use Rattle.statement.specs.Progress.{NextReading, Interval, Written, Fillable, Filled}
 use Rattle.statement.proofs.CodeSound.{checked-fit}
 use Rattle.statement.proofs.CodeWritten.{Long, written-first, written-last, written-long}
 

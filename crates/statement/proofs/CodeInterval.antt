@@ -9,13 +9,14 @@ use lib.ListN.{length, getD}
 use Rattle.profile.specs.Limits.{spanMost, weightMost}
 use Rattle.account.specs.Below.{last}
 use Rattle.account.specs.Account.{Account, days, shown}
+use Rattle.account.specs.Slices.{Checked}
 use Rattle.account.proofs.Below.{IsLast, first-least, last-found, last-most}
 use Rattle.account.proofs.Sound.{mark-most}
 use Rattle.statement.specs.declared.Progress.{Progress}
 use Rattle.statement.specs.Split.{weightSum, shareOf, between, has}
 use Rattle.statement.specs.Parts.{Outputs, marked}
 use Rattle.statement.specs.Shares.{Adjacent}
-use Rattle.statement.specs.Progress.{Checked, Interval, Written, Splittable, Summable, Addable, withPart, nextPart}
+use Rattle.statement.specs.Progress.{Interval, Written, Splittable, Summable, Addable, withPart, nextPart}
 use Rattle.statement.proofs.Order.{read, adjacent-rise}
 use Rattle.statement.specs.Facts.{Valid}
 use Rattle.statement.proofs.Parts.{Ends}

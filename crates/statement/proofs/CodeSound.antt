@@ -6,11 +6,10 @@ use Prim.Native.Nat.{ℕ, zero, suc, _-_, _≤_, _<_}
 use native.Mathlib.Omega.{arith}
 use Rattle.account.specs.Stands.{Readings, neverFalling, lastLessFirst, firstReading, lastReading}
 use Rattle.account.specs.Account.{Account, shown, marksReading, marksCut}
-use Rattle.account.specs.Slices.{Fit}
+use Rattle.account.specs.Slices.{Checked, Fit}
 use Rattle.account.proofs.Below.{first-found, last-found, first-least, last-most}
 use Rattle.account.proofs.Pairs.{pairs}
 use Rattle.account.proofs.Sound.{Sound, fit, sound-parts}
-use Rattle.statement.specs.Progress.{Checked}
 use Rattle.statement.proofs.Order.{valid-of-sound}
 use Rattle.statement.specs.Facts.{Valid}
 
@@ -19,10 +18,10 @@ module _ (a : Account) (c : Checked a) where
   checked-fit = fit a (c .fits)
 
   pub checked-sound : Sound a
-  checked-sound = sound-parts a (c .good)
+  checked-sound = sound-parts a (c .sound)
 
   pub checked-valid : Valid (a .weights) (shown a .readings)
-  checked-valid = valid-of-sound a (c .good)
+  checked-valid = valid-of-sound a (c .sound)
 
 -- a mark from 1 to 3 is a reading or a cut
 pub mark-counts : (m : ℕ) → m ≤ 3 → (m ≡ 0 → ⊥) → (marksReading m || marksCut m) ≡ true

@@ -5,6 +5,7 @@ use mathlib.Core.Bool.{Bool, cond, _&&_, _||_}
 use mathlib.Core.List.{List, [], _∷_, _++_, map}
 use lib.Dec.{leb, ltb}
 use lib.ListN.{length}
+use denote.Ref.{RefT, now}
 use Rattle.profile.specs.Rows.{filled}
 use Rattle.account.specs.Below.{last}
 use Rattle.account.specs.Stands.{Stands, firstReading, lastReading}
@@ -48,6 +49,10 @@ pub record Outputs : Type 0 where
 
 abbrev pub outputs : List ℕ → List ℕ → List ℕ → Outputs
 outputs f t e = record { from = f; to = t; wh = e }
+
+-- what three lent slices hold, at the start (`entry`) or the end (`exit`) of a call
+abbrev pub outputsIn : RefT (List ℕ) → RefT (List ℕ) → RefT (List ℕ) → Outputs
+outputsIn f t e = outputs (now f) (now t) (now e)
 
 abbrev pub written : ℕ → List Part → Outputs
 written n ps =

@@ -7,7 +7,8 @@ use lib.ListN.{length, getD, set}
 use Rattle.profile.specs.Limits.{spanMost, weightMost}
 use Rattle.account.specs.Below.{howMany, last}
 use Rattle.account.specs.Stands.{Stands}
-use Rattle.account.specs.Account.{Account, days, shown, unfit, sound, marksReading, goodWeights, energyMost}
+use Rattle.account.specs.Account.{Account, days, shown, marksReading, goodWeights, energyMost}
+use Rattle.account.specs.Slices.{Checked}
 use Rattle.statement.specs.declared.Progress.{Progress}
 use Rattle.statement.specs.Split.{has}
 use Rattle.statement.specs.Parts.{Outputs, outputs, marked, partsBelow, parts, written}
@@ -33,11 +34,6 @@ pub record Splittable (low e zk z : ℕ) : Type 0 where
   pub sum : z ≤ spanMost * weightMost
   pub energy : e ≤ energyMost
   pub room : low + e < 2 ^ 64
-
--- an account that none of the rows 3 and 5 refuses
-pub record Checked (a : Account) : Type 0 where
-  pub fits : unfit a ≡ false
-  pub good : sound a ≡ true
 
 -- the outputs hold the parts that end below boundary m, and zeros past them;
 -- so many `parts` there are, and the next starts at the boundary `start`, which has `count`

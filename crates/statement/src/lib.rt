@@ -8,9 +8,9 @@ use readings::count_readings;
 use readings::next_reading;
 ghost use mathlib.Core.Path.{_≡_};
 ghost use Prim.Native.Nat.{_+_};
-ghost use Rattle.account.specs.Account.{account, shown};
+ghost use Rattle.account.specs.Account.{accountIn, shown};
 ghost use Rattle.statement.specs.Split.{weightSum, shareOf};
-ghost use Rattle.statement.specs.Parts.{outputs};
+ghost use Rattle.statement.specs.Parts.{outputsIn};
 ghost use Rattle.statement.specs.Call.{StatementMet};
 ghost use Rattle.statement.specs.Progress.{Summable, Splittable, Addable, withPart, nextPart, Interval, Written, Fillable, Filled};
 
@@ -38,7 +38,7 @@ pub fn statement(
     to: &mut [u16],
     wh: &mut [u64],
 ) -> StatementAnswer
-    ensures { λ r. ⌜ StatementMet (account (now (weights .entry)) (now (marks .entry)) (now (counts .entry))) (outputs (now (from .entry)) (now (to .entry)) (now (wh .entry))) r (account (now (weights .exit)) (now (marks .exit)) (now (counts .exit))) (outputs (now (from .exit)) (now (to .exit)) (now (wh .exit))) ⌝ }
+    ensures { λ r. ⌜ StatementMet (accountIn (weights .entry) (marks .entry) (counts .entry)) (outputsIn (from .entry) (to .entry) (wh .entry)) r (accountIn (weights .exit) (marks .exit) (counts .exit)) (outputsIn (from .exit) (to .exit) (wh .exit)) ⌝ }
 {
     let n = weights.len();
     if from.len() != n {
@@ -98,8 +98,8 @@ fn add_part(
     end: usize,
     count: u64,
 ) -> Progress
-    requires { ⌜ Addable (outputs (now from) (now to) (now wh)) done end count ⌝ }
-    ensures { λ r. ⌜ (r ≡ nextPart done end count) × (outputs (now (from .exit)) (now (to .exit)) (now (wh .exit)) ≡ withPart (outputs (now (from .entry)) (now (to .entry)) (now (wh .entry))) done end count) ⌝ }
+    requires { ⌜ Addable (outputsIn from to wh) done end count ⌝ }
+    ensures { λ r. ⌜ (r ≡ nextPart done end count) × (outputsIn (from .exit) (to .exit) (wh .exit) ≡ withPart (outputsIn (from .entry) (to .entry) (wh .entry)) done end count) ⌝ }
 {
     let at = done.parts;
     from[at] = done.start as u16;
@@ -123,8 +123,8 @@ fn fill_interval(
     wh: &mut [u64],
     done: Progress,
 ) -> Progress
-    requires { ⌜ Interval (account (now weights) (now marks) (now counts)) q (outputs (now from) (now to) (now wh)) done ⌝ }
-    ensures { λ r. ⌜ Written (now (weights .entry)) (shown (account (now (weights .entry)) (now (marks .entry)) (now (counts .entry)))) (q + 1) (outputs (now (from .exit)) (now (to .exit)) (now (wh .exit))) r ⌝ }
+    requires { ⌜ Interval (accountIn weights marks counts) q (outputsIn from to wh) done ⌝ }
+    ensures { λ r. ⌜ Written (now (weights .entry)) (shown (accountIn (weights .entry) (marks .entry) (counts .entry))) (q + 1) (outputsIn (from .exit) (to .exit) (wh .exit)) r ⌝ }
 {
     let p = done.start;
     let low = done.count;
@@ -154,8 +154,8 @@ fn fill(
     to: &mut [u16],
     wh: &mut [u64],
 ) -> usize
-    requires { ⌜ Fillable (account (now weights) (now marks) (now counts)) (outputs (now from) (now to) (now wh)) ⌝ }
-    ensures { λ r. ⌜ Filled (account (now (weights .entry)) (now (marks .entry)) (now (counts .entry))) (outputs (now (from .exit)) (now (to .exit)) (now (wh .exit))) r ⌝ }
+    requires { ⌜ Fillable (accountIn weights marks counts) (outputsIn from to wh) ⌝ }
+    ensures { λ r. ⌜ Filled (accountIn (weights .entry) (marks .entry) (counts .entry)) (outputsIn (from .exit) (to .exit) (wh .exit)) r ⌝ }
 {
     let n = weights.len();
     let first = next_reading(marks, 0);

@@ -1,4 +1,4 @@
--- The proofs of vectors: the starred cases, and the two roundings.
+-- The theorems of crate vectors: the two roundings, the starred cases, and the value near 1.
+pub mod Rounded
 pub mod Starred
 pub mod Near
-pub mod Rounded

@@ -1,4 +1,4 @@
--- A loop that fills a list from the front: its first k elements are those of a function of the index.
+-- A loop that fills a list from the front (Temperature of a day): its first k elements are those of a function of the index.
 -- Assumes nothing.
 use mathlib.Core.Path.{_≡_, sym, _∙_}
 use mathlib.Core.List.{List}

@@ -1,4 +1,4 @@
--- The laws that the proofs of this crate share.
+-- The laws that the proofs of crate weights share.
 pub mod Half
 pub mod Raised
 pub mod Filled

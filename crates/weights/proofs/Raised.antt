@@ -1,4 +1,4 @@
--- Temperatures raised by 5,000, as the code has them, and those of the rule, which are signed.
+-- Temperatures raised by 5,000 (Temperature of a day), as the code has them, and those of the rule, which are signed.
 -- Assumes nothing.
 use mathlib.Core.Path.{_≡_, _∙_, sym, ap}
 use mathlib.Core.Bool.{true, and-true}

@@ -1,4 +1,4 @@
--- A series with no mean out of range, mean by mean, and one that serves.
+-- A series with no mean out of range (Temperature of a day), mean by mean, and one that serves.
 -- Assumes nothing.
 use mathlib.Core.Path.{_≡_, refl}
 use mathlib.Core.Bool.{Bool, true, false, _&&_}

@@ -1,4 +1,4 @@
--- The rows of the table for a call of `weights`: under a row's condition, and none above it, the row's answer meets the contract.
+-- The rows of the table for a call of `weights` (If a call declines): under a row's condition, and none above it, the row's answer meets the contract.
 -- Assumes nothing.
 use mathlib.Core.Path.{_≡_, refl, _∙_, ap}
 use mathlib.Core.Bool.{true, false}

@@ -1,5 +1,5 @@
--- What the calls of this crate promise (Temperature of a day; rows 1 to 4 of the table).
+-- What the contracts and claims of crate weights cite (Temperature of a day, If a call declines).
 pub mod Means
 pub mod Temperature
-pub mod Choose
 pub mod Weights
+pub mod Choose

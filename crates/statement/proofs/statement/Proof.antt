@@ -4,9 +4,9 @@ use Prim.Native.Nat.{suc}
 use native.Mathlib.Omega.{arith}
 use Rattle.account.specs.Below.{howMany}
 use Rattle.account.specs.Account.{Account, account, days, shown}
+use Rattle.account.specs.Slices.{Checked}
 use Rattle.statement.specs.Parts.{Outputs, outputs}
 use Rattle.statement.specs.Call.{zeroed}
-use Rattle.statement.specs.Progress.{Checked}
 use Rattle.statement.proofs.CodeWritten.{Long, outputs-same}
 use Rattle.statement.proofs.CodeAnswers.{met-from, met-to, met-wh, met-account, met-unsound, checked, counted, met-few, met-parts, ready}
 use Rattle.statement.proofs.statement.Statement.{statement}

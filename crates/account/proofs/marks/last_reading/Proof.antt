@@ -1,6 +1,6 @@
 -- `account::marks::last_reading` meets its contract. The loop's invariant: the last reading is that of the boundaries left.
 -- Assumes nothing.
-use Prim.Native.Nat.{_≤_, _-_}
+use Prim.Native.Nat.{_≤_}
 use native.Mathlib.Omega.{arith}
 use mathlib.Core.Path.{_≡_, refl, sym, ap, _∙_}
 use lib.ListN.{length, getD}

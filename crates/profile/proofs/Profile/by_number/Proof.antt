@@ -15,8 +15,8 @@ use Rattle.profile.proofs.Profile.by_number.Tie as tie
 returns : tie.Need-returns
 unfolding profileOf
 returns c =
-    let above : profileCount ≤ c .before .args .n = omega arith in
-    let test = le-leb profileCount (c .before .args .n) above in (
+    let above : profileCount ≤ c .before .args .number = omega arith in
+    let test = le-leb profileCount (c .before .args .number) above in (
       record {
         answers = simp test;
         gives = sym (List·getD-eq-default table noProfile above);
@@ -34,7 +34,7 @@ returns-2 c =
       record {
         answers = simp test;
         gives = c .profile-at .ensures;
-        week = λ e. rw (c .profile-at .ensures) (profile-tested (c .before .before .args .n) (c .before .if1 .left) .week);
+        week = λ e. rw (c .profile-at .ensures) (profile-tested (c .before .before .args .number) (c .before .if1 .left) .week);
       },
       (search needs, search needs),
     )

@@ -1,6 +1,6 @@
 -- Each call for C and Rust has the contract of its name, by computation. Assumes nothing.
 use mathlib.Core.Path.{refl}
-use Rattle.header.specs.Named.{Named}
+use Rattle.interface.specs.Named.{Named}
 
 pub named : Named
 named =

@@ -12,8 +12,8 @@ use Rattle.history.specs.Run as run
 use Rattle.history.proofs.Answers.{Says, open-says, reading-says, withdraw-says, cut-says, uncut-says, statement-gives}
 use Rattle.history.proofs.Theorem.{demand3}
 use Rattle.ffi.specs.Calls.{outcomeOf}
-use Rattle.header.specs.Lists.{Returned, Met, Calls, leftBy, returned, ClaimForC}
-use Rattle.header.specs.Lists as lists
+use Rattle.interface.specs.Lists.{Returned, Met, Calls, leftBy, returned, ClaimForC}
+use Rattle.interface.specs.Lists as lists
 
 step : (a : Account) (c : Returned) → Met a c → (e : Event) × Step a e × (returned e ≡ c) × (accountAfter e ≡ leftBy c)
 step a (lists.reading k v r b) met =

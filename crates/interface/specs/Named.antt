@@ -1,15 +1,12 @@
 -- The calls for C and Rust by their names (If a call declines): the contract of each, as the toolchain reads it, IS the record of its name
 -- in crate ffi, and none asks anything of its caller, "each entry point checks its own input".
 -- (proofs/Names, `named`: by `refl`, so a contract that is weakened, or that stands at another call, breaks it)
-use Prim.Native.Nat.{ℕ}
 use mathlib.Core.Path.{_≡_}
-use mathlib.Core.List.{List}
 use contract.Lifetimes
 use borrow.Fn.Kinds
-use denote.Ref.{RefT, now}
-use denote.Triple.Clauses
-use Rattle.account.specs.Account.{Account, account}
-use Rattle.statement.specs.Parts.{Outputs, outputs}
+use denote.Ref.{now}
+use Rattle.account.specs.Account.{accountIn}
+use Rattle.statement.specs.Parts.{outputsIn}
 use Rattle.layout.specs.Text.{LaidOut, TextMet, statementText, refusalText}
 use Rattle.ffi.specs.Calls.{TemperatureReturned, ChooseReturned, ValueReturned, WeightReturned, WeightsReturned, OpenReturned, ReadingReturned, WithdrawReturned, CutReturned, UncutReturned, StatementReturned, CustomerReturned, AmountReturned, ReadReturned}
 use Rattle.ffi.proofs.arvadush_temperature.Kinds as temperature-kinds
@@ -45,13 +42,6 @@ use Rattle.ffi.proofs.arvadush_statement_text.Reads as statement-text-reads
 use Rattle.ffi.proofs.arvadush_refusal_text.Kinds as refusal-text-kinds
 use Rattle.ffi.proofs.arvadush_refusal_text.Reads as refusal-text-reads
 
--- the account, and the outputs, that three references lend
-abbrev lent : RefT (List ℕ) → RefT (List ℕ) → RefT (List ℕ) → Account
-lent w m c = account (now w) (now m) (now c)
-
-abbrev lentOut : RefT (List ℕ) → RefT (List ℕ) → RefT (List ℕ) → Outputs
-lentOut f t e = outputs (now f) (now t) (now e)
-
 -- a: what the call is given; r: what it returns; s: what its references show after it
 pub record Named : Type 1 where
   pub temperature-is : (κs : Lifetimes.Lfts 0) (a : Kinds.Dens κs temperature-kinds.ps) (r : _) (s : _) →
@@ -65,25 +55,25 @@ pub record Named : Type 1 where
   pub weights-is : (κs : Lifetimes.Lfts 2) (a : Kinds.Dens κs weights-kinds.ps) (r : _) (s : _) →
       weights-reads.Post κs a r s ≡ WeightsReturned (a .0) (a .1 .0) (now (a .1 .1 .0)) (now (a .1 .1 .1 .0)) r (now (s .1 .1 .1 .0)) (now (s .1 .1 .0))
   pub open-is : (κs : Lifetimes.Lfts 3) (a : Kinds.Dens κs open-kinds.ps) (r : _) (s : _) →
-      open-reads.Post κs a r s ≡ OpenReturned (lent (a .0) (a .1 .0) (a .1 .1 .0)) r (lent (s .0) (s .1 .0) (s .1 .1 .0))
+      open-reads.Post κs a r s ≡ OpenReturned (accountIn (a .0) (a .1 .0) (a .1 .1 .0)) r (accountIn (s .0) (s .1 .0) (s .1 .1 .0))
   pub reading-is : (κs : Lifetimes.Lfts 3) (a : Kinds.Dens κs reading-kinds.ps) (r : _) (s : _) →
-      reading-reads.Post κs a r s ≡ ReadingReturned (a .1 .1 .1 .0) (a .1 .1 .1 .1 .0) (lent (a .0) (a .1 .0) (a .1 .1 .0)) r (lent (s .0) (s .1 .0) (s .1 .1 .0))
+      reading-reads.Post κs a r s ≡ ReadingReturned (a .1 .1 .1 .0) (a .1 .1 .1 .1 .0) (accountIn (a .0) (a .1 .0) (a .1 .1 .0)) r (accountIn (s .0) (s .1 .0) (s .1 .1 .0))
   pub withdraw-is : (κs : Lifetimes.Lfts 3) (a : Kinds.Dens κs withdraw-kinds.ps) (r : _) (s : _) →
-      withdraw-reads.Post κs a r s ≡ WithdrawReturned (a .1 .1 .1 .0) (lent (a .0) (a .1 .0) (a .1 .1 .0)) r (lent (s .0) (s .1 .0) (s .1 .1 .0))
+      withdraw-reads.Post κs a r s ≡ WithdrawReturned (a .1 .1 .1 .0) (accountIn (a .0) (a .1 .0) (a .1 .1 .0)) r (accountIn (s .0) (s .1 .0) (s .1 .1 .0))
   pub cut-is : (κs : Lifetimes.Lfts 3) (a : Kinds.Dens κs cut-kinds.ps) (r : _) (s : _) →
-      cut-reads.Post κs a r s ≡ CutReturned (a .1 .1 .1 .0) (lent (a .0) (a .1 .0) (a .1 .1 .0)) r (lent (s .0) (s .1 .0) (s .1 .1 .0))
+      cut-reads.Post κs a r s ≡ CutReturned (a .1 .1 .1 .0) (accountIn (a .0) (a .1 .0) (a .1 .1 .0)) r (accountIn (s .0) (s .1 .0) (s .1 .1 .0))
   pub uncut-is : (κs : Lifetimes.Lfts 3) (a : Kinds.Dens κs uncut-kinds.ps) (r : _) (s : _) →
-      uncut-reads.Post κs a r s ≡ UncutReturned (a .1 .1 .1 .0) (lent (a .0) (a .1 .0) (a .1 .1 .0)) r (lent (s .0) (s .1 .0) (s .1 .1 .0))
+      uncut-reads.Post κs a r s ≡ UncutReturned (a .1 .1 .1 .0) (accountIn (a .0) (a .1 .0) (a .1 .1 .0)) r (accountIn (s .0) (s .1 .0) (s .1 .1 .0))
   pub statement-is : (κs : Lifetimes.Lfts 6) (a : Kinds.Dens κs statement-kinds.ps) (r : _) (s : _) →
-      statement-reads.Post κs a r s ≡ StatementReturned (lent (a .0) (a .1 .0) (a .1 .1 .0)) (lentOut (a .1 .1 .1 .0) (a .1 .1 .1 .1 .0) (a .1 .1 .1 .1 .1 .0)) r (lent (s .0) (s .1 .0) (s .1 .1 .0)) (lentOut (s .1 .1 .1 .0) (s .1 .1 .1 .1 .0) (s .1 .1 .1 .1 .1 .0))
+      statement-reads.Post κs a r s ≡ StatementReturned (accountIn (a .0) (a .1 .0) (a .1 .1 .0)) (outputsIn (a .1 .1 .1 .0) (a .1 .1 .1 .1 .0) (a .1 .1 .1 .1 .1 .0)) r (accountIn (s .0) (s .1 .0) (s .1 .1 .0)) (outputsIn (s .1 .1 .1 .0) (s .1 .1 .1 .1 .0) (s .1 .1 .1 .1 .1 .0))
   pub customer-value-is : (κs : Lifetimes.Lfts 1) (a : Kinds.Dens κs customer-value-kinds.ps) (r : _) (s : _) →
       customer-value-reads.Post κs a r s ≡ CustomerReturned (a .0) (now (a .1 .0)) r (now (s .1 .0))
   pub daily-amount-is : (κs : Lifetimes.Lfts 0) (a : Kinds.Dens κs daily-amount-kinds.ps) (r : _) (s : _) →
       daily-amount-reads.Post κs a r s ≡ AmountReturned (a .0) (a .1 .0) r
   pub read-is : (κs : Lifetimes.Lfts 4) (a : Kinds.Dens κs read-kinds.ps) (r : _) (s : _) →
-      read-reads.Post κs a r s ≡ ReadReturned (now (a .0)) (lent (a .1 .0) (a .1 .1 .0) (a .1 .1 .1 .0)) r (lent (s .1 .0) (s .1 .1 .0) (s .1 .1 .1 .0)) (now (s .0))
+      read-reads.Post κs a r s ≡ ReadReturned (now (a .0)) (accountIn (a .1 .0) (a .1 .1 .0) (a .1 .1 .1 .0)) r (accountIn (s .1 .0) (s .1 .1 .0) (s .1 .1 .1 .0)) (now (s .0))
   pub statement-text-is : (κs : Lifetimes.Lfts 4) (a : Kinds.Dens κs statement-text-kinds.ps) (r : _) (s : _) →
-      statement-text-reads.Post κs a r s ≡ TextMet (statementText (lentOut (a .0) (a .1 .0) (a .1 .1 .0)) (a .1 .1 .1 .0)) (now (a .1 .1 .1 .1 .0)) r (now (s .1 .1 .1 .1 .0)) (lentOut (a .0) (a .1 .0) (a .1 .1 .0)) (lentOut (s .0) (s .1 .0) (s .1 .1 .0))
+      statement-text-reads.Post κs a r s ≡ TextMet (statementText (outputsIn (a .0) (a .1 .0) (a .1 .1 .0)) (a .1 .1 .1 .0)) (now (a .1 .1 .1 .1 .0)) r (now (s .1 .1 .1 .1 .0)) (outputsIn (a .0) (a .1 .0) (a .1 .1 .0)) (outputsIn (s .0) (s .1 .0) (s .1 .1 .0))
   pub refusal-text-is : (κs : Lifetimes.Lfts 1) (a : Kinds.Dens κs refusal-text-kinds.ps) (r : _) (s : _) →
       refusal-text-reads.Post κs a r s ≡ LaidOut 0 (refusalText (a .0) (a .1 .0)) (now (a .1 .1 .0)) r (now (s .1 .1 .0))
   pub temperature-asks-nothing : (κs : Lifetimes.Lfts 0) (a : Kinds.Dens κs temperature-kinds.ps) → temperature-reads.Pre κs a ≡ Unit {0}

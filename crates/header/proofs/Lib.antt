@@ -1,3 +1,0 @@
--- The theorems of crate header.
-pub mod Names
-pub mod Lists

@@ -1,0 +1,3 @@
+-- What crate interface claims of the calls for C and Rust (demand 3; If a call declines).
+pub mod Named
+pub mod Lists
