@@ -1,4 +1,4 @@
--- Short names for the contracts of the private functions, some of which take single slices (Account and its calls).
+-- Short names for the contracts of private functions and for proofs, here and above; some take single slices (Account and its calls).
 use Prim.Native.Nat.{ℕ, suc, _+_, _-_, _≤_}
 use mathlib.Core.Path.{_≡_}
 use mathlib.Core.Bool.{Bool, true, false, _&&_}

@@ -12,7 +12,7 @@ use Rattle.casefile.specs.declared.CaseAnswer.the-variants.{Days, Refuse
 use Rattle.casefile.specs.declared.sections.SectionEnd.{SectionEnd}
 use Rattle.casefile.specs.Case.{daysOf, accountOf}
 use Rattle.casefile.specs.Faults.{Fault, noFault, faultOf}
-use Rattle.casefile.specs.Reader.{number, place, days, faultNumber, faultPlace, unfitSlices, verdict, full, allZero, ReadMet}
+use Rattle.casefile.specs.Reader.{faultNumber, faultPlace, unfitSlices, verdict, full, allZero, ReadMet}
 use Rattle.casefile.specs.Sections.{told, Clear, AllClear, FillMet}
 use Rattle.casefile.proofs.Faults.{clean}
 

@@ -15,7 +15,7 @@ use Rattle.weights.proofs.Span.{weights-length}
 use Rattle.weights.proofs.Table.{weights-bounded}
 use Rattle.account.specs.Below.{somewhere}
 use Rattle.account.specs.Stands.{Stands, nothing}
-use Rattle.account.specs.Account.{Account, days, shown, unfit, sound, goodWeights, energyMost}
+use Rattle.account.specs.Account.{Account, days, shown, unfit, goodWeights, energyMost}
 use Rattle.profile.specs.Rows.{row}
 use Rattle.account.specs.Refusals.{readingRows, readingNumber, cutRows, cutNumber}
 use Rattle.account.specs.Calls.{cleared}

@@ -11,7 +11,7 @@ use profile::Profile;
 // The largest customer value, in 0.1 Wh.
 const VALUE_MOST: u64 = 1_000_000_000_000;
 
-// 10 tenths of a Wh times 10^6 millionths of a weight.
+// 10 tenths to the Wh, times 10^6 millionths to a weight of one.
 const UNITS: u64 = 10_000_000;
 
 // A customer value or a daily amount, or a row of the table.

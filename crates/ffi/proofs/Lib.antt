@@ -1,2 +1,2 @@
--- The laws that the proofs of crate ffi share.
+-- What the proof of the chooser uses (Temperature of a day).
 mod Series

@@ -87,26 +87,10 @@ pub(crate) fn weight(answer: WeightAnswer) -> Outcome
     ensures { λ r. ⌜ r ≡ outcomeOf (weightAnswered answer) (weightPlaced answer) (weightGiven answer) ⌝ }
 {
     match answer {
-        WeightAnswer::Weight(w) => Outcome {
-            number: 0,
-            place: 0,
-            value: w as u64,
-        },
-        WeightAnswer::NoProfile => Outcome {
-            number: 1,
-            place: 0,
-            value: 0,
-        },
-        WeightAnswer::NoWeekday => Outcome {
-            number: 2,
-            place: 0,
-            value: 0,
-        },
-        WeightAnswer::OutOfRange(k) => Outcome {
-            number: 4,
-            place: k as usize,
-            value: 0,
-        },
+        WeightAnswer::Weight(w) => outcome(0, 0, w as u64),
+        WeightAnswer::NoProfile => outcome(1, 0, 0),
+        WeightAnswer::NoWeekday => outcome(2, 0, 0),
+        WeightAnswer::OutOfRange(k) => outcome(4, k as usize, 0),
     }
 }
 
@@ -114,31 +98,11 @@ pub(crate) fn weights(answer: WeightsAnswer) -> Outcome
     ensures { λ r. ⌜ r ≡ outcomeOf (span.number answer) (span.place answer) 0 ⌝ }
 {
     match answer {
-        WeightsAnswer::Done => Outcome {
-            number: 0,
-            place: 0,
-            value: 0,
-        },
-        WeightsAnswer::Unfit => Outcome {
-            number: 3,
-            place: 0,
-            value: 0,
-        },
-        WeightsAnswer::NoProfile => Outcome {
-            number: 1,
-            place: 0,
-            value: 0,
-        },
-        WeightsAnswer::NoWeekday => Outcome {
-            number: 2,
-            place: 0,
-            value: 0,
-        },
-        WeightsAnswer::OutOfRange(k) => Outcome {
-            number: 4,
-            place: k,
-            value: 0,
-        },
+        WeightsAnswer::Done => outcome(0, 0, 0),
+        WeightsAnswer::Unfit => outcome(3, 0, 0),
+        WeightsAnswer::NoProfile => outcome(1, 0, 0),
+        WeightsAnswer::NoWeekday => outcome(2, 0, 0),
+        WeightsAnswer::OutOfRange(k) => outcome(4, k, 0),
     }
 }
 
@@ -146,26 +110,10 @@ pub(crate) fn statement(answer: StatementAnswer) -> Outcome
     ensures { λ r. ⌜ r ≡ outcomeOf (call.number answer) 0 (call.partCount answer) ⌝ }
 {
     match answer {
-        StatementAnswer::Parts(parts) => Outcome {
-            number: 0,
-            place: 0,
-            value: parts as u64,
-        },
-        StatementAnswer::Unfit => Outcome {
-            number: 3,
-            place: 0,
-            value: 0,
-        },
-        StatementAnswer::Unsound => Outcome {
-            number: 5,
-            place: 0,
-            value: 0,
-        },
-        StatementAnswer::TooFewReadings => Outcome {
-            number: 11,
-            place: 0,
-            value: 0,
-        },
+        StatementAnswer::Parts(parts) => outcome(0, 0, parts as u64),
+        StatementAnswer::Unfit => outcome(3, 0, 0),
+        StatementAnswer::Unsound => outcome(5, 0, 0),
+        StatementAnswer::TooFewReadings => outcome(11, 0, 0),
     }
 }
 
@@ -173,31 +121,11 @@ pub(crate) fn customer(answer: CustomerAnswer) -> Outcome
     ensures { λ r. ⌜ r ≡ outcomeOf (customer.number answer) 0 (customer.value answer) ⌝ }
 {
     match answer {
-        CustomerAnswer::Given(v) => Outcome {
-            number: 0,
-            place: 0,
-            value: v,
-        },
-        CustomerAnswer::Unfit => Outcome {
-            number: 3,
-            place: 0,
-            value: 0,
-        },
-        CustomerAnswer::Unsound => Outcome {
-            number: 5,
-            place: 0,
-            value: 0,
-        },
-        CustomerAnswer::TooMuch => Outcome {
-            number: 9,
-            place: 0,
-            value: 0,
-        },
-        CustomerAnswer::TooGreat => Outcome {
-            number: 12,
-            place: 0,
-            value: 0,
-        },
+        CustomerAnswer::Given(v) => outcome(0, 0, v),
+        CustomerAnswer::Unfit => outcome(3, 0, 0),
+        CustomerAnswer::Unsound => outcome(5, 0, 0),
+        CustomerAnswer::TooMuch => outcome(9, 0, 0),
+        CustomerAnswer::TooGreat => outcome(12, 0, 0),
     }
 }
 
@@ -205,15 +133,18 @@ pub(crate) fn case(answer: CaseAnswer) -> Outcome
     ensures { λ r. ⌜ r ≡ outcomeOf (reader.number answer) (reader.place answer) (reader.days answer) ⌝ }
 {
     match answer {
-        CaseAnswer::Days(days) => Outcome {
-            number: 0,
-            place: 0,
-            value: days as u64,
-        },
-        CaseAnswer::Refused(number, place) => Outcome {
-            number: number,
-            place: place,
-            value: 0,
-        },
+        CaseAnswer::Days(days) => outcome(0, 0, days as u64),
+        CaseAnswer::Refused(number, place) => outcome(number, place, 0),
+    }
+}
+
+// The number, the place and the value in one struct.
+fn outcome(number: u8, place: usize, value: u64) -> Outcome
+    ensures { λ r. ⌜ r ≡ outcomeOf number place value ⌝ }
+{
+    Outcome {
+        number,
+        place,
+        value,
     }
 }

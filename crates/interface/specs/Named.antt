@@ -1,6 +1,6 @@
 -- The calls for C and Rust by their names (If a call declines): the contract of each, as the toolchain reads it, IS the record of its name
 -- in crate ffi, and none asks anything of its caller, "each entry point checks its own input".
--- (proofs/Names, `named`: by `refl`, so a contract that is weakened, or that stands at another call, breaks it)
+-- (proofs/Names, `named`: by `refl`, so an `ensures` that is not the record of its name breaks it)
 use mathlib.Core.Path.{_≡_}
 use contract.Lifetimes
 use borrow.Fn.Kinds

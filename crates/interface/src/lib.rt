@@ -1,1 +1,2 @@
-// The calls that include/arvadush.h declares, each by its name: specs/Named.antt says which contract it has, proofs/Names.antt proves it.
+// Claims about the calls that include/arvadush.h declares (demand 3, If a call declines): specs/Named.antt has the contract of each,
+// specs/Lists.antt demand 3 of every list of them.

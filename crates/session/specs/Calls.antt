@@ -4,7 +4,7 @@ use mathlib.Core.Path.{_≡_}
 use mathlib.Core.List.{List}
 use lib.Dec.{ltb}
 use lib.ListN.{length, take, replicate}
-use Rattle.account.specs.Account.{Account, account, days}
+use Rattle.account.specs.Account.{Account, account}
 use Rattle.profile.specs.Rows.{row, ifDone}
 use Rattle.account.specs.Refusals.{openNumber, readingNumber, withdrawNumber, cutNumber, uncutNumber}
 use Rattle.account.specs.Calls.{cleared, readingPut, readingTaken, cutPut, cutTaken}

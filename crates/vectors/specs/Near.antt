@@ -11,3 +11,4 @@ use Rattle.profile.specs.Value.{valueLow, valueHigh}
 pub record NearOne : Type 0 where
   pub low : leZ (pos 999_990_000) (valueLow (profileOf 3) (pos 800)) ≡ true
   pub high : leZ (valueHigh (profileOf 3) (pos 800)) (pos 1_000_010_000) ≡ true
+  pub ordered : leZ (valueLow (profileOf 3) (pos 800)) (valueHigh (profileOf 3) (pos 800)) ≡ true

@@ -1,5 +1,5 @@
 -- `ffi::returned::case` meets its contract: each arm is told its variant. Assumes nothing.
-use mathlib.Core.Path.{sym, ap}
+use mathlib.Core.Path.{sym, ap, _∙_}
 use borrow.Author.Needs.{needs}
 use Rattle.casefile.specs.declared.CaseAnswer.{CaseAnswer}
 use Rattle.casefile.specs.Reader as reader
@@ -15,15 +15,21 @@ tells answer = outcomeOf (reader.number answer) (reader.place answer) (reader.da
 enum-known-answer : tie.Need-enum-known-answer
 enum-known-answer c = search needs
 
+outcome-requires : tie.Need-outcome-requires
+outcome-requires c κs = search needs
+
 enum-known-answer-2 : tie.Need-enum-known-answer-2
 enum-known-answer-2 c = search needs
 
+outcome-requires-2 : tie.Need-outcome-requires-2
+outcome-requires-2 c κs = search needs
+
 returns : tie.Need-returns
-returns c = sym (ap tells (c .before .answer .given .1))
+returns c = c .outcome .ensures ∙ sym (ap tells (c .before .before .answer .given .1))
 
 returns-2 : tie.Need-returns-2
-returns-2 c = sym (ap tells (c .before .answer2 .given .1))
+returns-2 c = c .outcome2 .ensures ∙ sym (ap tells (c .before .before .answer2 .given .1))
 
 pub case-spec : {M : Type 1} → statement M
 case-spec =
-    tie.close (tie.spec enum-known-answer enum-known-answer-2 returns returns-2)
+    tie.close (tie.spec enum-known-answer outcome-requires enum-known-answer-2 outcome-requires-2 returns returns-2)

@@ -1,5 +1,5 @@
 -- `ffi::returned::weight` meets its contract: each arm is told its variant. Assumes nothing.
-use mathlib.Core.Path.{sym, ap}
+use mathlib.Core.Path.{sym, ap, _∙_}
 use borrow.Author.Needs.{needs}
 use Rattle.profile.specs.declared.WeightAnswer.{WeightAnswer}
 use Rattle.profile.specs.Answers.{weightAnswered, weightPlaced, weightGiven}
@@ -15,33 +15,45 @@ tells answer = outcomeOf (weightAnswered answer) (weightPlaced answer) (weightGi
 enum-known-answer : tie.Need-enum-known-answer
 enum-known-answer c = search needs
 
-cast-t5 : tie.Need-cast-t5
-cast-t5 c = search needs
+cast-outcome : tie.Need-cast-outcome
+cast-outcome c = search needs
+
+outcome-requires : tie.Need-outcome-requires
+outcome-requires c κs = search needs
 
 enum-told : tie.Need-enum-told
 enum-told c = search needs
 
+outcome-requires-2 : tie.Need-outcome-requires-2
+outcome-requires-2 c κs = search needs
+
 enum-told-2 : tie.Need-enum-told-2
 enum-told-2 c = search needs
+
+outcome-requires-3 : tie.Need-outcome-requires-3
+outcome-requires-3 c κs = search needs
 
 enum-known-answer-2 : tie.Need-enum-known-answer-2
 enum-known-answer-2 c = search needs
 
-cast-t6 : tie.Need-cast-t6
-cast-t6 c = search needs
+cast-outcome-2 : tie.Need-cast-outcome-2
+cast-outcome-2 c = search needs
+
+outcome-requires-4 : tie.Need-outcome-requires-4
+outcome-requires-4 c κs = search needs
 
 returns : tie.Need-returns
-returns c = sym (ap tells (c .before .answer .given .1))
+returns c = c .outcome .ensures ∙ sym (ap tells (c .before .before .answer .given .1))
 
 returns-2 : tie.Need-returns-2
-returns-2 c = sym (ap tells (c .enum-told .given .1))
+returns-2 c = c .outcome2 .ensures ∙ sym (ap tells (c .before .enum-told .given .1))
 
 returns-3 : tie.Need-returns-3
-returns-3 c = sym (ap tells (c .enum-told2 .given .1))
+returns-3 c = c .outcome3 .ensures ∙ sym (ap tells (c .before .enum-told2 .given .1))
 
 returns-4 : tie.Need-returns-4
-returns-4 c = sym (ap tells (c .before .answer2 .given .1))
+returns-4 c = c .outcome4 .ensures ∙ sym (ap tells (c .before .before .answer2 .given .1))
 
 pub weight-spec : {M : Type 1} → statement M
 weight-spec =
-    tie.close (tie.spec enum-known-answer cast-t5 enum-told enum-told-2 enum-known-answer-2 cast-t6 returns returns-2 returns-3 returns-4)
+    tie.close (tie.spec enum-known-answer cast-outcome outcome-requires enum-told outcome-requires-2 enum-told-2 outcome-requires-3 enum-known-answer-2 cast-outcome-2 outcome-requires-4 returns returns-2 returns-3 returns-4)
