@@ -1,36 +1,19 @@
-// The answers to the script that an input holds (docs/GUIDE.md, The console).
-use crate::input::Input;
+// The answers to a script (docs/GUIDE.md, The console).
 use crate::printer;
 use crate::printer::Sent;
 use crate::printer::print;
-ghost use Prim.Native.Nat.{_+_, _≤_};
+ghost use Prim.Native.Nat.{_≤_};
 ghost use mathlib.Core.Path.{_≡_};
 ghost use mathlib.Core.Bool.{false};
-ghost use lib.ListN.{length, take};
+ghost use lib.ListN.{length};
 ghost use Rattle.account.specs.Account.{accountIn};
 ghost use Rattle.layout.specs.Accounts.{textMost};
-ghost use Rattle.script.specs.Input.{scriptMost, scriptOf};
+ghost use Rattle.script.specs.Input.{scriptOf};
 ghost use Rattle.session.specs.Lines.{session};
 ghost use Rattle.session.specs.Script.{fresh, scriptText};
 
-// The answers to what was read, at most one byte more than a script can have. No other function calls `answer`.
-pub(crate) fn answer_read(
-    input: Input,
-    weights: &mut [u32],
-    marks: &mut [u8],
-    counts: &mut [u64],
-    out: &mut [u8],
-) -> Sent
-    requires { ⌜ (length (input .buffer) ≡ scriptMost + 1) × (input .read ≤ scriptMost + 1) × (session 0 (accountIn weights marks counts) ≡ fresh) × (textMost ≤ length (now out)) ⌝ }
-    ensures { λ r. ⌜ (r .failed ≡ false → r .bytes ≡ length (scriptText (scriptOf (take (input .read) (input .buffer))))) ⌝ }
-{
-    let buffer = input.buffer();
-    let read = input.length();
-    answer(&buffer[..read], weights, marks, counts, out)
-}
-
 // The answers of an input's whole lines, gathered in out and printed when it may not hold one more; all of them, if no write fails.
-fn answer(
+pub(crate) fn answer(
     input: &[u8],
     weights: &mut [u32],
     marks: &mut [u8],

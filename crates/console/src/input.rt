@@ -1,9 +1,16 @@
 // What was read of a script (docs/GUIDE.md, The console): one byte more at most than a script can have.
+use crate::answers::answer;
+use crate::printer::Sent;
 use script::SCRIPT_MOST;
 ghost use Prim.Native.Nat.{_+_, _≤_};
 ghost use mathlib.Core.Path.{_≡_};
-ghost use lib.ListN.{length};
-ghost use Rattle.script.specs.Input.{scriptMost};
+ghost use mathlib.Core.Bool.{false};
+ghost use lib.ListN.{length, take};
+ghost use Rattle.account.specs.Account.{accountIn};
+ghost use Rattle.layout.specs.Accounts.{textMost};
+ghost use Rattle.script.specs.Input.{scriptMost, scriptOf};
+ghost use Rattle.session.specs.Lines.{session};
+ghost use Rattle.session.specs.Script.{fresh, scriptText};
 
 // Its fields are private: only `read` can fill one.
 pub(crate) struct Input {
@@ -20,15 +27,19 @@ pub(crate) fn read(fd: i32) -> Input
 }
 
 impl Input {
-    pub(crate) fn buffer(self) -> [u8; SCRIPT_MOST + 1]
-        ensures { λ r. ⌜ r ≡ self .buffer ⌝ }
+    // The answers to what was read.
+    pub(crate) fn answers(
+        self,
+        weights: &mut [u32],
+        marks: &mut [u8],
+        counts: &mut [u64],
+        out: &mut [u8],
+    ) -> Sent
+        requires { ⌜ (length (self .buffer) ≡ scriptMost + 1) × (self .read ≤ scriptMost + 1) × (session 0 (accountIn weights marks counts) ≡ fresh) × (textMost ≤ length (now out)) ⌝ }
+        ensures { λ r. ⌜ (r .failed ≡ false → r .bytes ≡ length (scriptText (scriptOf (take (self .read) (self .buffer))))) ⌝ }
     {
-        self.buffer
-    }
-
-    pub(crate) fn length(self) -> usize
-        ensures { λ r. ⌜ r ≡ self .read ⌝ }
-    {
-        self.read
+        let buffer = self.buffer;
+        let read = self.read;
+        answer(&buffer[..read], weights, marks, counts, out)
     }
 }

@@ -7,10 +7,10 @@ use profile::WeightAnswer;
 use weights::TemperatureAnswer;
 ghost use Prim.Native.Nat.{_<_, min, max};
 ghost use mathlib.Core.Path.{_≡_};
-ghost use mathlib.Core.Bool.{_&&_};
 ghost use lib.IntN.{pos, _+ℤ_};
-ghost use lib.Signed.{leZ};
 ghost use Rattle.profile.specs.Limits.{coldest};
+ghost use Rattle.vectors.specs.Near.{near};
+ghost use Rattle.figures.specs.Near.{valueNear};
 
 // The least and the greatest of the weights seen so far.
 struct Range {
@@ -143,9 +143,20 @@ fn values() {
 
 // Whether a value, in units of 10^-9, lies within 0.00001 of 1.
 fn near_one(low: i64, high: i64) -> bool
-    ensures { λ r. ⌜ r ≡ (leZ (pos 999990000) low && leZ high (pos 1000010000)) ⌝ }
+    ensures { λ r. ⌜ r ≡ near low high ⌝ }
 {
     999_990_000 <= low && high <= 1_000_010_000
+}
+
+// Whether a profile's value at a temperature does; no value does not.
+fn value_near_one(profile: u8, t: i16) -> bool
+    ensures { λ r. ⌜ r ≡ valueNear profile t ⌝ }
+{
+    match profile::value(profile, t) {
+        ValueAnswer::Value { low, high } => near_one(low, high),
+        ValueAnswer::NoProfile => false,
+        ValueAnswer::OutOfRange(_) => false,
+    }
 }
 
 fn yes_or_no(yes: bool) {
@@ -158,11 +169,7 @@ fn yes_or_no(yes: bool) {
 
 fn near() {
     word(b"GHD33 at 800 within 0.00001 of 1: ");
-    match profile::value(3, 800) {
-        ValueAnswer::Value { low, high } => yes_or_no(near_one(low, high)),
-        ValueAnswer::NoProfile => refused(1),
-        ValueAnswer::OutOfRange(_) => refused(4),
-    }
+    yes_or_no(value_near_one(3, 800));
     end_line();
 }
 

@@ -1,31 +1,34 @@
 -- The printed statement and refusal (Case file): "First the number of parts, then from, to, Wh of each, then their sum. A refusal prints
 -- one line: `refused`, its number and the place (0 if it has none), single spaces between." Text is a list of ASCII codes.
-use Prim.Native.Nat.{ℕ, zero, suc, _+_, _/_, _^_, _<_}
+use Prim.Native.Nat.{ℕ, zero, suc, _+_, _-_, _/_, _%_, _^_, _≤_, _<_}
 use mathlib.Core.Path.{_≡_}
 use mathlib.Core.Bool.{Bool, cond, _||_}
 use mathlib.Core.List.{List, [], _∷_, _++_}
 use lib.Dec.{ltb, eqb}
 use lib.ListN.{length, getD}
 use lib.Seq.{sets}
-use Rattle.io.specs.Digits.{digits, Fewest}
 use Rattle.account.specs.Below.{somewhere}
 use Rattle.account.specs.Account.{energyMost}
 use Rattle.profile.specs.Limits.{spanMost}
 use Rattle.statement.specs.Parts.{Outputs}
 use Rattle.statement.specs.Shares.{total}
 
--- how many decimal digits n has; 20 are enough for 64 bits
-unfoldable pub digitCount : ℕ → ℕ → ℕ
-digitCount zero n = 1
-digitCount (suc more) n = cond (ltb n 10) 1 (suc (digitCount more (n / 10)))
+-- the decimal digits of n, the last one and before it those of n / 10: at most `more` before it
+unfoldable pub digits : ℕ → ℕ → List ℕ
+digits zero n = (48 + n % 10) ∷ []
+digits (suc more) n = cond (ltb n 10) [] (digits more (n / 10)) ++ ((48 + n % 10) ∷ [])
 
+-- 20 before the last are enough for 64 bits
 unfoldable pub decimal : ℕ → List ℕ
-decimal n = digits 10 (digitCount 20 n) n
+decimal n = digits 20 n
 
--- a number of 64 bits is printed with the fewest digits that hold it, at least one, so no leading zero but in 0 itself (proofs/Decimal,
--- `fewest-digits`)
+-- k is the fewest digits, at least one, that hold n
+abbrev pub Fewest : ℕ → ℕ → Type 0
+Fewest n k = (1 ≤ k) × (n < 10 ^ k) × (1 < k → 10 ^ (k - 1) ≤ n)
+
+-- a number of 64 bits is printed with the fewest digits, so no leading zero but in 0 itself (proofs/Decimal, `fewest-digits`)
 abbrev pub FewestDigits : Type 0
-FewestDigits = (n : ℕ) → n < 2 ^ 64 → Fewest 10 1 n (length (decimal n))
+FewestDigits = (n : ℕ) → n < 2 ^ 64 → Fewest n (length (decimal n))
 
 abbrev pub space : List ℕ
 space = 32 ∷ []

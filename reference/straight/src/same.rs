@@ -365,20 +365,12 @@ impl Text {
         }
     }
 
-    /// First how many digits, then the digits from the last one on.
+    /// The digits before the last one are those of a tenth.
     fn number(&mut self, number: u64) {
-        let (mut places, mut rest) = (1, number / 10);
-        while rest > 0 {
-            rest /= 10;
-            places += 1;
+        if number >= 10 {
+            self.number(number / 10);
         }
-        let (mut digits, mut at, mut rest) = ([0; 20], places, number);
-        while at > 0 {
-            at -= 1;
-            digits[at] = b'0' + (rest % 10) as u8;
-            rest /= 10;
-        }
-        self.word(&digits[..places]);
+        self.word(&[b'0' + (number % 10) as u8]);
     }
 }
 

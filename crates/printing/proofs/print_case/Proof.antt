@@ -1,12 +1,17 @@
--- `printing::print_case` prints the text of what it read: the arrays have the lengths that the reader asks, and no text fills the buffer. Assumes nothing.
-use mathlib.Core.Path.{_≡_, sym}
+-- `printing::print_case` prints the text of what it read: the arrays have the lengths that the reader asks, and no text fills the buffer. It reads once and prints once. Assumes nothing.
+use mathlib.Core.Path.{_≡_, refl, sym}
 use native.Mathlib.Omega.{arith}
 use lib.ListN.{length}
 use lib.Seq.{length-take-le}
 use borrow.Author.Needs.{needs}
 use Rattle.report.proofs.Printed.{prints-file}
+use Rattle.printing.specs.Traces.{PrintsCase}
+use Rattle.printing.proofs.print_case.Code.Mir as code
 use Rattle.printing.proofs.print_case.Statement.{statement}
 use Rattle.printing.proofs.print_case.Tie as tie
+
+pub prints-once : PrintsCase code.function
+prints-once = refl
 
 read-requires : tie.Need-read-requires
 read-requires c κs = search needs

@@ -12,8 +12,13 @@ use Rattle.script.proofs.Input.{whole-within}
 use Rattle.session.specs.Lines.{session}
 use Rattle.session.proofs.Joined.{run-within, run-passes, run-goes-on}
 use Rattle.session.proofs.Sent.{SentSoFar, sent-none, sent-next, sent-more, sent-all}
+use Rattle.console.specs.Traces.{AnswersInPieces}
+use Rattle.console.proofs.answers.answer.Code.Mir as code
 use Rattle.console.proofs.answers.answer.Statement.{statement}
 use Rattle.console.proofs.answers.answer.Tie as tie
+
+pub calls-these : AnswersInPieces code.function
+calls-these = refl
 
 abbrev Inv-loop : tie.InvT-loop
 Inv-loop input weights₀ marks₀ counts₀ out₀ end at₀ done₀ days₀ sent₀ weights marks counts out at done days sent =

@@ -1,9 +1,15 @@
--- `console::printer::print` meets its contract: the text of a script is so short that its bytes have a number of 64 bits. Assumes nothing.
+-- `console::printer::print` meets its contract: the text of a script is so short that its bytes have a number of 64 bits. It writes once. Assumes nothing.
+use mathlib.Core.Path.{refl}
 use native.Mathlib.Omega.{arith}
 use borrow.Author.Needs.{needs}
 use Rattle.session.proofs.Sent.{sent-fits}
+use Rattle.console.specs.Traces.{WritesPiece}
+use Rattle.console.proofs.printer.print.Code.Mir as code
 use Rattle.console.proofs.printer.print.Statement.{statement}
 use Rattle.console.proofs.printer.print.Tie as tie
+
+pub writes-once : WritesPiece code.function
+writes-once = refl
 
 add-bytes : tie.Need-add-bytes
 add-bytes c =

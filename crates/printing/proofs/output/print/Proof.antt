@@ -1,9 +1,14 @@
--- `printing::output::print` counts the bytes of the text that it was handed. Assumes nothing.
+-- `printing::output::print` counts the bytes of the text that it was handed, and writes them once. Assumes nothing.
 use mathlib.Core.Path.{refl, ap}
 use lib.ListN.{length}
 use borrow.Author.Needs.{needs}
+use Rattle.printing.specs.Traces.{WritesText}
+use Rattle.printing.proofs.output.print.Code.Mir as code
 use Rattle.printing.proofs.output.print.Statement.{statement}
 use Rattle.printing.proofs.output.print.Tie as tie
+
+pub writes-once : WritesText code.function
+writes-once = refl
 
 write-all-requires : tie.Need-write-all-requires
 write-all-requires c κs = search needs

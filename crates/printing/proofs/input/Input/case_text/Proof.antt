@@ -1,10 +1,15 @@
--- `printing::input::Input::case_text`: the bytes that are handed on are as many as were read. Assumes nothing.
-use mathlib.Core.Path.{sym}
+-- `printing::input::Input::case_text`: the bytes that are handed on are as many as were read; it calls nothing else. Assumes nothing.
+use mathlib.Core.Path.{refl, sym}
 use native.Mathlib.Omega.{arith}
 use lib.Seq.{length-take-le}
 use borrow.Author.Needs.{needs}
+use Rattle.printing.specs.Traces.{MakesText}
+use Rattle.printing.proofs.input.Input.case_text.Code.Mir as code
 use Rattle.printing.proofs.input.Input.case_text.Statement.{statement}
 use Rattle.printing.proofs.input.Input.case_text.Tie as tie
+
+pub hands-on : MakesText code.function
+hands-on = refl
 
 array-share-prefix-buffer : tie.Need-array-share-prefix-buffer
 array-share-prefix-buffer c = search needs

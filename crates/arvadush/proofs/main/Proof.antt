@@ -1,0 +1,19 @@
+-- `arvadush::main` ends, and does one job. Assumes nothing.
+use mathlib.Core.Path.{refl}
+use borrow.Author.Needs.{needs}
+use Rattle.arvadush.specs.Traces.{DoesOneJob}
+use Rattle.arvadush.proofs.main.Code.Mir as code
+use Rattle.arvadush.proofs.main.Statement.{statement}
+use Rattle.arvadush.proofs.main.Tie as tie
+
+pub does-one-job : DoesOneJob code.function
+does-one-job = refl
+
+print-case-requires : tie.Need-print-case-requires
+print-case-requires c κs = search needs
+
+returns : tie.Need-returns
+returns c = search needs
+
+pub main-spec : {M : Type 1} → statement M
+main-spec = tie.close (tie.spec print-case-requires returns)

@@ -1,0 +1,2 @@
+-- The theorem of crate code (Case file).
+pub mod Samples

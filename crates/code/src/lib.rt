@@ -1,0 +1,1 @@
+// What a function's code calls, and with what (Case file): specs/Trace.antt reads it off the code, for the functions that read and write.

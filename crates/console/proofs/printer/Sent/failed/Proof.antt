@@ -1,0 +1,16 @@
+-- `console::printer::Sent::failed` meets its contract, and calls nothing. Assumes nothing.
+use mathlib.Core.Path.{refl}
+use borrow.Author.Needs.{needs}
+use Rattle.code.specs.Trace.{CallsNothing}
+use Rattle.console.proofs.printer.Sent.failed.Code.Mir as code
+use Rattle.console.proofs.printer.Sent.failed.Statement.{statement}
+use Rattle.console.proofs.printer.Sent.failed.Tie as tie
+
+pub calls-nothing : CallsNothing code.function
+calls-nothing = refl
+
+returns : tie.Need-returns
+returns c = search needs
+
+pub failed-spec : {M : Type 1} → statement M
+failed-spec = tie.close (tie.spec returns)

@@ -1,0 +1,16 @@
+-- `console::printer::counted` meets its contract, and calls nothing. Assumes nothing.
+use mathlib.Core.Path.{refl}
+use borrow.Author.Needs.{needs}
+use Rattle.code.specs.Trace.{CallsNothing}
+use Rattle.console.proofs.printer.counted.Code.Mir as code
+use Rattle.console.proofs.printer.counted.Statement.{statement}
+use Rattle.console.proofs.printer.counted.Tie as tie
+
+pub calls-nothing : CallsNothing code.function
+calls-nothing = refl
+
+returns : tie.Need-returns
+returns c = search needs
+
+pub counted-spec : {M : Type 1} → statement M
+counted-spec = tie.close (tie.spec returns)

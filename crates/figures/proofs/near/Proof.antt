@@ -1,0 +1,39 @@
+-- `figures::near` is safe and ends, and asks what it prints. Assumes nothing.
+use mathlib.Core.Path.{refl}
+use borrow.Author.Needs.{needs}
+use Rattle.figures.specs.Near.{Asks}
+use Rattle.figures.proofs.near.Code.Mir as code
+use Rattle.figures.proofs.near.Statement.{statement}
+use Rattle.figures.proofs.near.Tie as tie
+
+pub asks : Asks code.function
+asks = refl
+
+slice-aggregate-word : tie.Need-slice-aggregate-word
+slice-aggregate-word c = search needs
+
+word-requires : tie.Need-word-requires
+word-requires c κs = search needs
+
+value-near-one-requires : tie.Need-value-near-one-requires
+value-near-one-requires c κs = search needs
+
+yes-or-no-requires : tie.Need-yes-or-no-requires
+yes-or-no-requires c κs = search needs
+
+end-line-requires : tie.Need-end-line-requires
+end-line-requires c κs = search needs
+
+returns : tie.Need-returns
+returns c = search needs
+
+pub near-spec : {M : Type 1} → statement M
+near-spec =
+    tie.close
+    (tie.spec
+    slice-aggregate-word
+    word-requires
+    value-near-one-requires
+    yes-or-no-requires
+    end-line-requires
+    returns)
