@@ -3,4 +3,18 @@ use mathlib.Core.Path.{refl}
 use Rattle.code.specs.Samples.{Samples}
 
 pub samples : Samples
-samples = record { ordered = refl; set-before = refl; lent = refl; copied-before = refl; set-when-lent = refl; branch = refl; again = refl }
+samples =
+    record {
+      ordered = refl;
+      set-before = refl;
+      lent = refl;
+      copied-before = refl;
+      lent-in-part = refl;
+      set-when-lent = refl;
+      lent-on = refl;
+      branch = refl;
+      broken = refl;
+      copied-before-turns = refl;
+      nested = refl;
+      continued = refl;
+    }

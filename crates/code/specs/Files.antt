@@ -1,9 +1,9 @@
--- How a function's code reads a file (Case file); the numbers by which the system knows the open files.
+-- How a function's code reads a file and hands on what was read (Case file); the numbers by which the system knows the open files.
 use Prim.Native.Nat.{ℕ}
 use mathlib.Core.Path.{_≡_}
 use mathlib.Core.List.{[], _∷_}
-use mir.Syntax.{Fn}
-use Rattle.code.specs.Trace.{Value, number, parameter, answer, address, content, pair, calls, returns, trace}
+use mir.Syntax.{Name, Fn}
+use Rattle.code.specs.Trace.{Value, number, parameter, answer, address, content, field, pair, other, calls, returns, trace}
 
 abbrev pub standardInput : Value
 standardInput = number 0
@@ -11,7 +11,19 @@ standardInput = number 0
 abbrev pub standardOutput : Value
 standardOutput = number 1
 
--- one read of the file that is its parameter, into the whole of a buffer of so many bytes; it returns the buffer as the read left it and what the read answered
+-- a slice of n elements
+abbrev pub slice : Value → ℕ → Value
+slice start n = pair start (number n)
+
+-- a slice that was lent to the function, lent on
+abbrev pub lentOn : ℕ → Value
+lentOn k = pair (field 0 (parameter k)) (field 1 (parameter k))
+
+-- one read of the file that is its parameter, into the whole of a buffer; it returns the buffer as the read left it, and the read's answer
 abbrev pub ReadsOnce : ℕ → Fn → Type 0
-ReadsOnce most f =
-    trace f ≡ calls "io::read_full" (parameter 1 ∷ pair (address 2) (number most) ∷ []) (returns (pair (content 2 1) (answer 0)))
+ReadsOnce most f = trace f ≡ calls "io::read_full" (parameter 1 ∷ slice (address 2 other) most ∷ []) (returns (pair (content 2 1) (answer 0)))
+
+-- one call of g, on the bytes that its first parameter holds, a buffer and how many were read, and on four slices lent on
+abbrev pub HandsOn : Name → Fn → Type 0
+HandsOn g f =
+    trace f ≡ calls g (pair (address 6 (field 0 (parameter 1))) (field 1 (parameter 1)) ∷ lentOn 2 ∷ lentOn 3 ∷ lentOn 4 ∷ lentOn 5 ∷ []) (returns (answer 0))

@@ -1,46 +1,69 @@
--- What is read off seven short pieces of code (Case file), so that `trace` can be seen to tell them apart (proofs/Samples, `samples`).
+-- What is read off twelve short pieces of code (Case file), so that `trace` can be seen to tell them apart (proofs/Samples, `samples`).
 use Prim.Native.Nat.{ℕ}
 use mathlib.Core.Path.{_≡_}
 use mathlib.Core.List.{List, [], _∷_}
-use mir.Syntax.{Body, Place, Opd, w64, place, copy, int, opdTrue, rvOpd, addrOf, skip, seq, assign, loop, cond, return, call}
-use Rattle.code.specs.Trace.{Trace, calls, returns, unread, parameter, number, answer, address, content, has, run}
+use mir.Syntax.{Body, Place, Opd, w64, place, copy, int, rvOpd, addrOf, aggregate, deref, tyUnit, skip, seq, assign, block, loop, cond, exit, return, call}
+use mir.Syntax as Mir
+use Rattle.code.specs.Trace.{Trace, calls, returns, either, turns, again, unfollowed, parameter, number, answer, address, content, varies, other, bodyTrace}
+use Rattle.code.specs.Files.{lentOn}
 
 -- a local, and what it holds
 abbrev pub local : ℕ → Place
 local x = place x []
 
-abbrev pub what : ℕ → Opd
-what x = copy (local x)
+abbrev pub held : ℕ → Opd
+held x = copy (local x)
 
--- the trace of steps that are taken one after the other
+-- steps one after the other, then a return
 abbrev pub inOrder : List Body → Body
 inOrder [] = return
 inOrder (step ∷ steps) = seq step (inOrder steps)
 
-abbrev pub read : List Body → Trace
-read steps = run (inOrder steps) 0 (λ x. has (parameter x)) (λ n locals. unread)
+abbrev pub traced : List Body → Trace
+traced steps = bodyTrace (inOrder steps)
 
 pub record Samples : Type 0 where
   -- r = f(p); return g(r, 7)
   pub ordered :
-      read (call "f" (what 1 ∷ []) (local 2) ∷ call "g" (what 2 ∷ int w64 7 ∷ []) (local 0) ∷ []) ≡
+      traced (call "f" (held 1 ∷ []) (local 2) ∷ call "g" (held 2 ∷ int w64 7 ∷ []) (local 0) ∷ []) ≡
       calls "f" (parameter 1 ∷ []) (calls "g" (answer 0 ∷ number 7 ∷ []) (returns (answer 1)))
-  -- p = 3; f(p)
+  -- p = 3; return f(p)
   pub set-before :
-      read (assign (local 1) (rvOpd (int w64 3)) ∷ call "f" (what 1 ∷ []) (local 0) ∷ []) ≡ calls "f" (number 3 ∷ []) (returns (answer 0))
+      traced (assign (local 1) (rvOpd (int w64 3)) ∷ call "f" (held 1 ∷ []) (local 0) ∷ []) ≡ calls "f" (number 3 ∷ []) (returns (answer 0))
   -- x = 3; f(&x); return x
   pub lent :
-      read (assign (local 2) (rvOpd (int w64 3)) ∷ assign (local 3) (addrOf (local 2)) ∷ call "f" (what 3 ∷ []) (local 4) ∷ assign (local 0) (rvOpd (what 2)) ∷ []) ≡
-      calls "f" (address 2 ∷ []) (returns (content 2 1))
+      traced (assign (local 2) (rvOpd (int w64 3)) ∷ assign (local 3) (addrOf (local 2)) ∷ call "f" (held 3 ∷ []) (local 4) ∷ assign (local 0) (rvOpd (held 2)) ∷ []) ≡
+      calls "f" (address 2 (number 3) ∷ []) (returns (content 2 1))
   -- p = &x; y = x; f(p); return y
   pub copied-before :
-      read (assign (local 3) (addrOf (local 2)) ∷ assign (local 4) (rvOpd (what 2)) ∷ call "f" (what 3 ∷ []) (local 5) ∷ assign (local 0) (rvOpd (what 4)) ∷ []) ≡
-      calls "f" (address 2 ∷ []) (returns (content 2 0))
+      traced (assign (local 3) (addrOf (local 2)) ∷ assign (local 4) (rvOpd (held 2)) ∷ call "f" (held 3 ∷ []) (local 5) ∷ assign (local 0) (rvOpd (held 4)) ∷ []) ≡
+      calls "f" (address 2 (parameter 2) ∷ []) (returns (content 2 0))
+  -- f(&x.0); return x
+  pub lent-in-part :
+      traced (assign (local 3) (addrOf (place 2 (Mir.field 0 ∷ []))) ∷ call "f" (held 3 ∷ []) (local 4) ∷ assign (local 0) (rvOpd (held 2)) ∷ []) ≡
+      calls "f" (other ∷ []) (returns (content 2 1))
   -- f(&x); x = 3
   pub set-when-lent :
-      read (assign (local 3) (addrOf (local 2)) ∷ call "f" (what 3 ∷ []) (local 4) ∷ assign (local 2) (rvOpd (int w64 3)) ∷ []) ≡
-      calls "f" (address 2 ∷ []) unread
-  -- if true { f() }
-  pub branch : read (cond opdTrue (call "f" [] (local 2)) skip ∷ []) ≡ unread
-  -- loop { f() }
-  pub again : read (loop (call "f" [] (local 2)) ∷ []) ≡ unread
+      traced (assign (local 3) (addrOf (local 2)) ∷ call "f" (held 3 ∷ []) (local 4) ∷ assign (local 2) (rvOpd (int w64 3)) ∷ []) ≡
+      calls "f" (address 2 (parameter 2) ∷ []) unfollowed
+  -- f(s), s being a slice that was lent, by its start and its length
+  pub lent-on :
+      traced (assign (local 3) (addrOf (place 1 (Mir.field 0 ∷ deref tyUnit ∷ []))) ∷ assign (local 4) (aggregate (held 3 ∷ copy (place 1 (Mir.field 1 ∷ [])) ∷ [])) ∷ call "f" (held 4 ∷ []) (local 0) ∷ []) ≡
+      calls "f" (lentOn 1 ∷ []) (returns (answer 0))
+  -- if p { f() }; return p
+  pub branch :
+      traced (cond (held 1) (call "f" [] (local 2)) skip ∷ assign (local 0) (rvOpd (held 1)) ∷ []) ≡
+      either (parameter 1) (calls "f" [] (returns (parameter 1))) (returns (parameter 1))
+  -- x = 3; loop { if p { break }; f(x); x = 4 }; return x
+  pub broken :
+      traced (assign (local 2) (rvOpd (int w64 3)) ∷ block (loop (seq (cond (held 1) (exit 1) skip) (seq (call "f" (held 2 ∷ []) (local 3)) (assign (local 2) (rvOpd (int w64 4)))))) ∷ assign (local 0) (rvOpd (held 2)) ∷ []) ≡
+      turns (either (parameter 1) (returns (varies 2)) (calls "f" (varies 2 ∷ []) again))
+  -- p = &x; y = x; loop { f(x, y) }
+  pub copied-before-turns :
+      traced (assign (local 3) (addrOf (local 2)) ∷ assign (local 4) (rvOpd (held 2)) ∷ loop (call "f" (held 2 ∷ held 4 ∷ []) (local 5)) ∷ []) ≡
+      turns (calls "f" (content 2 1 ∷ content 2 0 ∷ []) again)
+  -- loop { loop { f() } }
+  pub nested : traced (loop (loop (call "f" [] (local 2))) ∷ []) ≡ turns (turns (calls "f" [] again))
+  -- loop { if p { continue }; f() }
+  pub continued :
+      traced (loop (seq (cond (held 1) (exit 0) skip) (call "f" [] (local 2))) ∷ []) ≡ turns (either (parameter 1) again (calls "f" [] again))

@@ -1,29 +1,31 @@
--- What a function calls, in order and with what, and what it returns (Case file). No contract can say what was read or written; the code of the
--- functions that do it shows it: it is read off here, as the toolchain has it.
-use Prim.Native.Nat.{ℕ, suc}
-use mathlib.Core.Path.{_≡_}
-use mathlib.Core.Bool.{cond}
-use mathlib.Core.List.{List, [], _∷_, _++_, map}
+-- What a function's code calls, in order and with what, and what it returns (Case file): for claims about what is read and written, which no
+-- contract can make.
+use Prim.Native.Nat.{ℕ, zero, suc}
+use mathlib.Core.Bool.{Bool, true, false, cond, _&&_}
+use mathlib.Core.List.{List, [], _∷_, map}
 use lib.Dec.{eqb}
-use mir.Syntax.{Name, Step, Place, Opd, Rv, Body, Arms, Fn}
+use mir.Syntax.{Name, Step, Place, Opd, Rv, Body, Fn}
 use mir.Syntax as Mir
 
--- a value in the terms of the function; its calls are counted from 0
+-- a value in the terms of the function; calls, and loops that are entered, are counted from 0 along the way to where the value stands
 pub data Value : Type 0 where
   parameter : ℕ → Value  -- as the caller passed it, from 1
   number : ℕ → Value
   answer : ℕ → Value  -- of this call
-  address : ℕ → Value  -- of this local
-  content : ℕ → ℕ → Value  -- of this local, whose address was taken, after so many calls
+  address : ℕ → Value → Value  -- of this local, and what it held when its address was taken
+  content : ℕ → ℕ → Value  -- of this local, whose address was taken, after so many of them
+  varies : ℕ → Value  -- what this local, to which a loop stores, holds as a turn begins
   field : ℕ → Value → Value
   pair : Value → Value → Value  -- a struct of two fields; a slice is its start and its length
   other : Value
 
--- the calls, and at the end what is returned
 pub data Trace : Type 0 where
   calls : Name → List Value → Trace → Trace
   returns : Value → Trace
-  unread : Trace  -- a branch, a loop, or a store to anything but a local whose address was not taken
+  either : Value → Trace → Trace → Trace  -- by what a test gave
+  turns : Trace → Trace  -- a loop, of which each turn goes like this
+  again : Trace  -- the turn is at its end
+  unfollowed : Trace  -- a `match`, or a store to a part of a local, through a pointer, or to a local whose address was taken
 
 -- a local has a value, or its address was taken and any call may change it
 pub data Local : Type 0 where
@@ -36,7 +38,7 @@ Locals = ℕ → Local
 abbrev pub set : ℕ → Local → Locals → Locals
 set x l locals y = cond (eqb y x) l (locals y)
 
--- what local x holds after n calls
+-- what local x holds after n calls and loops
 abbrev pub held : ℕ → ℕ → Local → Value
 held x n (has v) = v
 held x n lent = content x n
@@ -75,17 +77,23 @@ struct (a ∷ b ∷ c ∷ vs) = other
 
 abbrev pub computed : ℕ → Locals → Rv → Value
 computed n locals (Mir.rvOpd o) = operand n locals o
-computed n locals (Mir.addrOf (Mir.place x [])) = address x
+computed n locals (Mir.addrOf (Mir.place x [])) = address x (held x n (locals x))
 computed n locals (Mir.addrOf (Mir.place x (step ∷ steps))) = pointer (step ∷ steps) (held x n (locals x))
 computed n locals (Mir.aggregate os) = struct (map (operand n locals) os)
 computed n locals (Mir.repeat o k) = other
 computed n locals (Mir.op1 f a) = other
 computed n locals (Mir.op2 f a b) = other
 
--- taking a local's address lends it
+-- whether a place is the local itself or a part of it, and not behind a pointer that it holds
+abbrev pub inside : List Step → Bool
+inside [] = true
+inside (Mir.field k ∷ steps) = inside steps
+inside (Mir.variant k ∷ steps) = inside steps
+inside (Mir.deref ty ∷ steps) = false
+
+-- taking the address of a local, or of a part of it, lends the local
 abbrev pub lending : Rv → Locals → Locals
-lending (Mir.addrOf (Mir.place x [])) locals = set x lent locals
-lending (Mir.addrOf (Mir.place x (step ∷ steps))) locals = locals
+lending (Mir.addrOf (Mir.place x steps)) locals = cond (inside steps) (set x lent locals) locals
 lending (Mir.rvOpd o) locals = locals
 lending (Mir.aggregate os) locals = locals
 lending (Mir.repeat o k) locals = locals
@@ -94,55 +102,55 @@ lending (Mir.op2 f a b) locals = locals
 
 abbrev pub unlessLent : Local → Trace → Trace
 unlessLent (has v) rest = rest
-unlessLent lent rest = unread
+unlessLent lent rest = unfollowed
 
 -- a value is stored, and the rest follows
 abbrev pub store : Place → Value → Locals → (Locals → Trace) → Trace
 store (Mir.place x []) v locals rest = unlessLent (locals x) (rest (set x (has v) locals))
-store (Mir.place x (step ∷ steps)) v locals rest = unread
+store (Mir.place x (step ∷ steps)) v locals rest = unfollowed
 
--- code after n calls, and the rest that follows it
-abbrev pub run : Body → ℕ → Locals → (ℕ → Locals → Trace) → Trace
-run Mir.skip n locals rest = rest n locals
-run (Mir.seq a b) n locals rest = run a n locals (λ m mid. run b m mid rest)
-run (Mir.assign p v) n locals rest = store p (computed n locals v) (lending v locals) (rest n)
-run (Mir.call f os p) n locals rest = calls f (map (operand n locals) os) (store p (answer n) locals (rest (suc n)))
-run Mir.return n locals rest = returns (held 0 n (locals 0))
-run (Mir.block b) n locals rest = unread
-run (Mir.loop b) n locals rest = unread
-run (Mir.cond o a b) n locals rest = unread
-run (Mir.switch o arms) n locals rest = unread
-run (Mir.exit k) n locals rest = unread
+abbrev pub varying : ℕ → Local → Local
+varying x (has v) = has (varies x)
+varying x lent = lent
+
+-- the locals as a turn of a loop with this code begins
+abbrev pub turning : Body → Locals → Locals
+turning (Mir.assign (Mir.place x steps) v) locals = lending v (set x (varying x (locals x)) locals)
+turning (Mir.call f os (Mir.place x steps)) locals = set x (varying x (locals x)) locals
+turning (Mir.seq a b) locals = turning b (turning a locals)
+turning (Mir.cond o a b) locals = turning b (turning a locals)
+turning (Mir.block b) locals = turning b locals
+turning (Mir.loop b) locals = turning b locals
+turning (Mir.switch o arms) locals = locals
+turning Mir.skip locals = locals
+turning (Mir.exit k) locals = locals
+turning Mir.return locals = locals
+
+-- what follows on code, after so many calls and loops
+abbrev pub Rest : Type 0
+Rest = ℕ → Locals → Trace
+
+-- an exit by 0 ends the block or the turn that it stands in, one by k + 1 what stands around that as one by k
+abbrev pub through : Rest → (ℕ → Rest) → ℕ → Rest
+through rest exits zero = rest
+through rest exits (suc k) = exits k
+
+-- code after n calls and loops, with what follows on its end and on its exits
+abbrev pub run : Body → ℕ → Locals → Rest → (ℕ → Rest) → Trace
+run Mir.skip n locals rest exits = rest n locals
+run (Mir.seq a b) n locals rest exits = run a n locals (λ m mid. run b m mid rest exits) exits
+run (Mir.assign p v) n locals rest exits = store p (computed n locals v) (lending v locals) (rest n)
+run (Mir.call f os p) n locals rest exits = calls f (map (operand n locals) os) (store p (answer n) locals (rest (suc n)))
+run (Mir.cond o a b) n locals rest exits = either (operand n locals o) (run a n locals rest exits) (run b n locals rest exits)
+run (Mir.block b) n locals rest exits = run b n locals rest (through rest exits)
+run (Mir.loop b) n locals rest exits = turns (run b (suc n) (turning b locals) (λ m end. again) (through (λ m end. again) exits))
+run (Mir.exit k) n locals rest exits = exits k n locals
+run Mir.return n locals rest exits = returns (held 0 n (locals 0))
+run (Mir.switch o arms) n locals rest exits = unfollowed
 
 -- the parameters are the locals from 1 on; any other local is set before it is read
+abbrev pub bodyTrace : Body → Trace
+bodyTrace b = run b 0 (λ x. has (parameter x)) (λ n locals. unfollowed) (λ k n locals. unfollowed)
+
 abbrev pub trace : Fn → Trace
-trace f = run (f .body) 0 (λ x. has (parameter x)) (λ n locals. unread)
-
--- a slice that was lent to the function, lent on
-abbrev pub lentOn : ℕ → Value
-lentOn k = pair (field 0 (parameter k)) (field 1 (parameter k))
-
--- every call that stands in code, in the order of the text, also in its branches and loops
-abbrev mutual
-  pub named : Body → List Name
-  named (Mir.call f os p) = f ∷ []
-  named (Mir.seq a b) = named a ++ named b
-  named (Mir.cond o a b) = named a ++ named b
-  named (Mir.switch o arms) = armsNamed arms
-  named (Mir.block b) = named b
-  named (Mir.loop b) = named b
-  named Mir.skip = []
-  named (Mir.assign p v) = []
-  named (Mir.exit k) = []
-  named Mir.return = []
-
-  pub armsNamed : Arms → List Name
-  armsNamed (Mir.arm keys b arms) = named b ++ armsNamed arms
-  armsNamed (Mir.default b) = named b
-  armsNamed Mir.noDefault = []
-
-abbrev pub callees : Fn → List Name
-callees f = named (f .body)
-
-abbrev pub CallsNothing : Fn → Type 0
-CallsNothing f = callees f ≡ []
+trace f = bodyTrace (f .body)

@@ -1,40 +1,57 @@
--- What the code that reads a script and prints its answers calls (docs/GUIDE.md, The console). What the calls between are handed, their contracts
--- say.
+-- What the code that reads a script and prints its answers calls, and with what (docs/GUIDE.md, The console).
 use Prim.Native.Nat.{_+_}
 use mathlib.Core.Path.{_≡_}
 use mathlib.Core.List.{[], _∷_}
 use mir.Syntax.{Fn}
 use Rattle.profile.specs.Limits.{spanMost}
-use Rattle.code.specs.Trace.{trace, calls, returns, callees, lentOn, parameter, number, answer, address, field, pair, other}
-use Rattle.code.specs.Files.{standardInput, standardOutput, ReadsOnce}
+use Rattle.code.specs.Trace.{trace, calls, returns, either, turns, again, parameter, number, answer, address, varies, field, pair, other}
+use Rattle.code.specs.Files.{standardInput, standardOutput, slice, lentOn, ReadsOnce, HandsOn}
 use Rattle.layout.specs.Accounts.{textMost}
 use Rattle.script.specs.Input.{scriptMost}
 
--- one byte more than a script can have (proofs/input/read, `reads-once`)
-abbrev pub ReadsScript : Fn → Type 0
-ReadsScript = ReadsOnce (scriptMost + 1)
-
--- one write of the piece that it is handed, whose answer is counted (proofs/printer/print, `writes-once`)
-abbrev pub WritesPiece : Fn → Type 0
-WritesPiece f =
-    trace f ≡ calls "io::write_all" (standardOutput ∷ parameter 3 ∷ []) (calls "console::printer::counted" (other ∷ answer 0 ∷ []) (returns (answer 1)))
-
--- the bytes that were read go to `answer` (proofs/input/Input/answers, `hands-on`)
-abbrev pub AnswersWhatWasRead : Fn → Type 0
-AnswersWhatWasRead f =
-    trace f ≡
-    calls "console::answers::answer" (pair (address 6) (field 1 (parameter 1)) ∷ lentOn 2 ∷ lentOn 3 ∷ lentOn 4 ∷ lentOn 5 ∷ [])
-    (returns (answer 0))
-
--- the calls of the loop over the script's pieces; what each is handed, its contract says (proofs/answers/answer, `calls-these`)
-abbrev pub AnswersInPieces : Fn → Type 0
-AnswersInPieces f =
-    callees f ≡ "script::whole_lines" ∷ "console::printer::nothing" ∷ "session::run" ∷ "console::printer::print" ∷ "console::printer::Sent::failed" ∷ []
-
--- one script, from standard input, answered on four arrays of its own (proofs/main, `answers-one-script`)
+-- one script, from standard input, is answered on four arrays of its own (proofs/main, `answers-one-script`)
 abbrev pub AnswersOneScript : Fn → Type 0
 AnswersOneScript f =
     trace f ≡
     calls "console::input::read" (standardInput ∷ [])
-    (calls "console::input::Input::answers" (answer 0 ∷ pair (address 2) (number spanMost) ∷ pair (address 3) (number (spanMost + 1)) ∷ pair (address 4) (number (spanMost + 1)) ∷ pair (address 5) (number (textMost + 1_024)) ∷ [])
+    (calls "console::input::Input::answer"
+    (answer 0 ∷ slice (address 2 other) spanMost ∷ slice (address 3 other) (spanMost + 1) ∷ slice (address 4 other) (spanMost + 1) ∷ slice (address 5 other) (textMost + 1_024) ∷ [])
     (returns other))
+
+-- one byte more than a script can have (proofs/input/read, `reads-script`)
+abbrev pub ReadsScript : Fn → Type 0
+ReadsScript = ReadsOnce (scriptMost + 1)
+
+-- (proofs/input/Input/answer, `answers-what-was-read`)
+abbrev pub AnswersWhatWasRead : Fn → Type 0
+AnswersWhatWasRead = HandsOn "console::answers::answer"
+
+-- a turn runs the next lines of the input, as far as its whole lines go, and prints what they answered, once; then it ends if that write failed
+-- (proofs/answers/answer, `answers-in-pieces`)
+abbrev pub AnswersInPieces : Fn → Type 0
+AnswersInPieces f =
+    trace f ≡
+    calls "script::whole_lines" (parameter 1 ∷ [])
+    (calls "console::printer::nothing" []
+    (turns
+    (either other
+    (calls "session::run" (pair (field 0 (parameter 1)) (answer 0) ∷ varies 7 ∷ varies 8 ∷ varies 9 ∷ lentOn 2 ∷ lentOn 3 ∷ lentOn 4 ∷ lentOn 5 ∷ [])
+    (calls "console::printer::print" (parameter 1 ∷ varies 10 ∷ pair (field 0 (parameter 5)) (field 3 (answer 3)) ∷ [])
+    (calls "console::printer::Sent::failed" (answer 4 ∷ [])
+    (either (answer 5) (returns (answer 4)) again))))
+    (returns (varies 10)))))
+
+-- one write of the piece that it is handed, whose answer is counted (proofs/printer/print, `writes-piece`)
+abbrev pub WritesPiece : Fn → Type 0
+WritesPiece f =
+    trace f ≡ calls "io::write_all" (standardOutput ∷ parameter 3 ∷ []) (calls "console::printer::counted" (other ∷ answer 0 ∷ []) (returns (answer 1)))
+
+-- no call: what was counted, the count at the start, and whether a write failed (proofs/printer)
+abbrev pub Counts : Fn → Type 0
+Counts f = trace f ≡ returns (pair (parameter 1) other)
+
+abbrev pub CountsNothing : Fn → Type 0
+CountsNothing f = trace f ≡ returns (pair (number 0) other)
+
+abbrev pub TellsFailure : Fn → Type 0
+TellsFailure f = trace f ≡ returns (field 1 (parameter 1))

@@ -1,5 +1,5 @@
 // What was read of a script (docs/GUIDE.md, The console): one byte more at most than a script can have.
-use crate::answers::answer;
+use crate::answers;
 use crate::printer::Sent;
 use script::SCRIPT_MOST;
 ghost use Prim.Native.Nat.{_+_, _≤_};
@@ -28,7 +28,7 @@ pub(crate) fn read(fd: i32) -> Input
 
 impl Input {
     // The answers to what was read.
-    pub(crate) fn answers(
+    pub(crate) fn answer(
         self,
         weights: &mut [u32],
         marks: &mut [u8],
@@ -40,6 +40,6 @@ impl Input {
     {
         let buffer = self.buffer;
         let read = self.read;
-        answer(&buffer[..read], weights, marks, counts, out)
+        answers::answer(&buffer[..read], weights, marks, counts, out)
     }
 }

@@ -15,5 +15,5 @@ fn main() {
     let mut counts = [0u64; Profile::SPAN + 1];
     // The longest answer, and 1,024 bytes more.
     let mut out = [0u8; TEXT_MOST + 1_024];
-    input.answers(&mut weights, &mut marks, &mut counts, &mut out);
+    input.answer(&mut weights, &mut marks, &mut counts, &mut out);
 }

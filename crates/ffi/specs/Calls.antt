@@ -8,9 +8,9 @@ use lib.ListN.{length}
 use Rattle.profile.specs.Rows.{ifDone}
 use Rattle.profile.specs.Limits.{weightLeast, weightMost}
 use Rattle.profile.specs.Coefficients.{profileOf}
-use Rattle.profile.specs.Value.{EnclosedPower, valueLow, valueHigh}
+use Rattle.profile.specs.Value.{EnclosedPower}
 use Rattle.profile.specs.Weight.{weightOf, floorWeight}
-use Rattle.profile.specs.Answers.{valueNumber, weightNumber}
+use Rattle.profile.specs.Answers.{valueNumber, lowByRule, highByRule, weightNumber}
 use Rattle.weights.specs.Temperature.{temperatureNumber, temperaturePlace, temperatureValue}
 use Rattle.weights.specs.Choose.{Series, Measured, Forecast, Neither, choice}
 use Rattle.weights.specs.Weights.{ruling, Bounded}
@@ -58,8 +58,8 @@ pub record ChooseReturned (measured forecast : List ℤ) (n : ℕ) (r : Chosen) 
 pub record ValueReturned (profile : ℕ) (t : ℤ) (r : Values) : Type 0 where
   pub answers : r .number ≡ valueNumber profile t
   pub places : r .place ≡ 0
-  pub low : r .low ≡ ifDone (valueNumber profile t) (valueLow (profileOf profile) t) (pos 0)
-  pub high : r .high ≡ ifDone (valueNumber profile t) (valueHigh (profileOf profile) t) (pos 0)
+  pub low : r .low ≡ lowByRule profile t
+  pub high : r .high ≡ highByRule profile t
   pub powers-enclose : valueNumber profile t ≡ 0 → EnclosedPower (profileOf profile) t
 
 pub record WeightReturned (profile weekday : ℕ) (t : ℤ) (r : Outcome) : Type 0 where

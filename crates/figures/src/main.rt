@@ -5,17 +5,24 @@ use profile::Profile;
 use profile::ValueAnswer;
 use profile::WeightAnswer;
 use weights::TemperatureAnswer;
-ghost use Prim.Native.Nat.{_<_, min, max};
+ghost use Prim.Native.Nat.{_<_, _≤_, min, max};
 ghost use mathlib.Core.Path.{_≡_};
+ghost use lib.ListN.{length, take};
 ghost use lib.IntN.{pos, _+ℤ_};
 ghost use Rattle.profile.specs.Limits.{coldest};
-ghost use Rattle.vectors.specs.Near.{near};
-ghost use Rattle.figures.specs.Near.{valueNear};
+ghost use Rattle.vectors.specs.Near.{nearOne};
+ghost use Rattle.figures.specs.Near.{valueNearOne, spelling};
 
 // The least and the greatest of the weights seen so far.
 struct Range {
     least: u32,
     most: u32,
+}
+
+// A word of at most three letters, and how many it has.
+struct Spelling {
+    bytes: [u8; 3],
+    length: usize,
 }
 
 fn word(text: &[u8]) {
@@ -143,14 +150,14 @@ fn values() {
 
 // Whether a value, in units of 10^-9, lies within 0.00001 of 1.
 fn near_one(low: i64, high: i64) -> bool
-    ensures { λ r. ⌜ r ≡ near low high ⌝ }
+    ensures { λ r. ⌜ r ≡ nearOne low high ⌝ }
 {
     999_990_000 <= low && high <= 1_000_010_000
 }
 
 // Whether a profile's value at a temperature does; no value does not.
 fn value_near_one(profile: u8, t: i16) -> bool
-    ensures { λ r. ⌜ r ≡ valueNear profile t ⌝ }
+    ensures { λ r. ⌜ r ≡ valueNearOne profile t ⌝ }
 {
     match profile::value(profile, t) {
         ValueAnswer::Value { low, high } => near_one(low, high),
@@ -159,17 +166,27 @@ fn value_near_one(profile: u8, t: i16) -> bool
     }
 }
 
-fn yes_or_no(yes: bool) {
+fn spelled(yes: bool) -> Spelling
+    ensures { λ r. ⌜ (take (r .length) (r .bytes) ≡ spelling yes) × (r .length ≤ length (r .bytes)) ⌝ }
+{
     if yes {
-        word(b"yes");
-        return;
+        return Spelling {
+            bytes: [b'y', b'e', b's'],
+            length: 3,
+        };
     }
-    word(b"no");
+    Spelling {
+        bytes: [b'n', b'o', b' '],
+        length: 2,
+    }
 }
 
 fn near() {
     word(b"GHD33 at 800 within 0.00001 of 1: ");
-    yes_or_no(value_near_one(3, 800));
+    let answer = spelled(value_near_one(3, 800));
+    let bytes = answer.bytes;
+    let length = answer.length;
+    word(&bytes[..length]);
     end_line();
 }
 

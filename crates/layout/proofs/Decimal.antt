@@ -1,17 +1,16 @@
 -- The decimal digits of a number (Case file, the program's output): more places than a number needs change nothing, and no more digits are printed
--- than hold it, at most 20 for 64 bits. Assumes nothing.
+-- than hold it. Assumes nothing.
 use Prim.Native.Nat.{ℕ, zero, suc, _+_, _-_, _*_, _/_, _%_, _^_, _≤_, _<_}
 use mathlib.Core.Path.{_≡_, refl, sym, ap, _∙_}
 use mathlib.Core.Bool.{Bool, true, false, cond}
 use mathlib.Core.List.{List, [], _∷_, _++_}
-use native.Mathlib.Nat.{div-lt-iff-lt-mul, le-div-iff-mul-le, pow-suc, pow-le-pow-right}
-use native.Mathlib.Decide.{decLe}
+use native.Mathlib.Nat.{div-lt-iff-lt-mul, le-div-iff-mul-le, pow-suc}
 use native.Mathlib.Numerals.{add-one, sub-one}
 use native.Mathlib.Omega.{arith}
 use borrow.Author.Tests.{lt-ltb, le-ltb, ltb-true, ltb-false}
 use lib.Dec.{lit<, ltb}
 use lib.ListN.{length, length-append}
-use Rattle.layout.specs.Text.{digits, decimal, Fewest, FewestDigits}
+use Rattle.layout.specs.Text.{digit, digits, decimal, Fewest, FewestDigits}
 
 -- a number with one place fewer
 fewer : (more n : ℕ) → n < 10 ^ suc (suc more) → n / 10 < 10 ^ suc more
@@ -20,33 +19,33 @@ fewer more n l = let high : n < 10 ^ suc more * 10 = rw pow-suc at l in div-lt-i
 place-more : (more n : ℕ) → n < 10 ^ suc more → digits (suc more) n ≡ digits more n
 unfolding digits
 place-more zero n l = rw (lt-ltb n 10 l) refl
-place-more (suc more) n l = ap (λ (before : List ℕ). cond (ltb n 10) [] before ++ ((48 + n % 10) ∷ [])) (place-more more (n / 10) (fewer more n l))
+place-more (suc more) n l = ap (λ (before : List ℕ). cond (ltb n 10) [] before ++ (digit (n % 10) ∷ [])) (place-more more (n / 10) (fewer more n l))
 
-pub one-digit : (n : ℕ) → n < 10 → decimal n ≡ (48 + n) ∷ []
+pub one-digit : (n : ℕ) → n < 10 → decimal n ≡ digit n ∷ []
 unfolding decimal digits
-one-digit n l = rw (lt-ltb n 10 l) (ap (λ (d : ℕ). (48 + d) ∷ []) (omega (arith, l)))
+one-digit n l = rw (lt-ltb n 10 l) (ap (λ (d : ℕ). digit d ∷ []) (omega (arith, l)))
 
-pub last-digit : (n : ℕ) → 10 ≤ n → n < 2 ^ 64 → decimal n ≡ decimal (n / 10) ++ ((48 + n % 10) ∷ [])
+pub last-digit : (n : ℕ) → 10 ≤ n → n < 2 ^ 64 → decimal n ≡ decimal (n / 10) ++ (digit (n % 10) ∷ [])
 unfolding decimal digits
 last-digit n ten l =
-    rw (le-ltb n 10 ten) (ap (λ (before : List ℕ). before ++ ((48 + n % 10) ∷ [])) (sym (place-more 19 (n / 10) (omega (arith, l)))))
+    rw (le-ltb n 10 ten) (ap (λ (before : List ℕ). before ++ (digit (n % 10) ∷ [])) (sym (place-more 18 (n / 10) (omega (arith, l)))))
 
 length-one-more : (xs : List ℕ) (x : ℕ) → length (xs ++ (x ∷ [])) ≡ suc (length xs)
 length-one-more xs x = length-append xs (x ∷ []) ∙ add-one (length xs)
 
--- no number is printed with more than 21 digits
+-- no number is printed with more than 20 digits
 digits-most : (more n : ℕ) → length (digits more n) ≤ suc more
 unfolding digits
 digits-most zero n = omega arith
 digits-most (suc more) n = by (ltb n 10) (digits-most more (n / 10))
   where
-    by : (b : Bool) → length (digits more (n / 10)) ≤ suc more → length (cond b [] (digits more (n / 10)) ++ ((48 + n % 10) ∷ [])) ≤ suc (suc more)
+    by : (b : Bool) → length (digits more (n / 10)) ≤ suc more → length (cond b [] (digits more (n / 10)) ++ (digit (n % 10) ∷ [])) ≤ suc (suc more)
     by true h = omega arith
-    by false h = omega (arith, h, length-one-more (digits more (n / 10)) (48 + n % 10))
+    by false h = omega (arith, h, length-one-more (digits more (n / 10)) (digit (n % 10)))
 
-pub decimal-most : (n : ℕ) → length (decimal n) ≤ 21
+pub decimal-most : (n : ℕ) → length (decimal n) ≤ 20
 unfolding decimal
-decimal-most n = digits-most 20 n
+decimal-most n = digits-most 19 n
 
 -- as many digits as are printed hold the number, and fewer do not
 digits-fewest : (more n : ℕ) → n < 10 ^ suc more → Fewest n (length (digits more n))
@@ -59,10 +58,10 @@ digits-fewest (suc more) n l = go (ltb n 10) refl (digits more (n / 10)) (digits
     low (suc zero) ten f = ten
     low (suc (suc k)) ten f = rw pow-suc (le-div-iff-mul-le (lit< tt) .0 (rw sub-one at (f .2 (omega arith))))
 
-    go : (b : Bool) → ltb n 10 ≡ b → (before : List ℕ) → Fewest (n / 10) (length before) → Fewest n (length (cond b [] before ++ ((48 + n % 10) ∷ [])))
+    go : (b : Bool) → ltb n 10 ≡ b → (before : List ℕ) → Fewest (n / 10) (length before) → Fewest n (length (cond b [] before ++ (digit (n % 10) ∷ [])))
     go true e before f = (omega arith, ltb-true n 10 e, λ h. absurd (omega arith))
     go false e before f =
-        rw (length-one-more before (48 + n % 10)) (
+        rw (length-one-more before (digit (n % 10))) (
           omega arith,
           rw pow-suc (div-lt-iff-lt-mul (lit< tt) .0 (f .1)),
           λ h. rw sub-one (low (length before) (ltb-false n 10 e) f),
@@ -70,15 +69,4 @@ digits-fewest (suc more) n l = go (ltb n 10) refl (digits more (n / 10)) (digits
 
 pub fewest-digits : FewestDigits
 unfolding decimal
-fewest-digits n l = digits-fewest 20 n (omega (arith, l))
-
--- 64 bits have at most 20 digits
-pub decimal-short : (n : ℕ) → n < 2 ^ 64 → length (decimal n) ≤ 20
-decimal-short n l =
-    elim (decLe (length (decimal n)) 20) [
-      | yes h ↦ h
-      | no above ↦
-          let more : 20 ≤ length (decimal n) - 1 = omega arith in
-          let high : 10 ^ 20 ≤ 10 ^ (length (decimal n) - 1) = pow-le-pow-right (lit< tt) more in
-          absurd (omega (arith, fewest-digits n l .2 (omega arith)))
-    ]
+fewest-digits n l = digits-fewest 19 n (omega (arith, l))

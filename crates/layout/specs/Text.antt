@@ -13,14 +13,17 @@ use Rattle.profile.specs.Limits.{spanMost}
 use Rattle.statement.specs.Parts.{Outputs}
 use Rattle.statement.specs.Shares.{total}
 
+abbrev pub digit : ℕ → ℕ
+digit d = 48 + d
+
 -- the decimal digits of n, the last one and before it those of n / 10: at most `more` before it
 unfoldable pub digits : ℕ → ℕ → List ℕ
-digits zero n = (48 + n % 10) ∷ []
-digits (suc more) n = cond (ltb n 10) [] (digits more (n / 10)) ++ ((48 + n % 10) ∷ [])
+digits zero n = digit (n % 10) ∷ []
+digits (suc more) n = cond (ltb n 10) [] (digits more (n / 10)) ++ (digit (n % 10) ∷ [])
 
--- 20 before the last are enough for 64 bits
+-- 20 digits are enough for 64 bits
 unfoldable pub decimal : ℕ → List ℕ
-decimal n = digits 20 n
+decimal n = digits 19 n
 
 -- k is the fewest digits, at least one, that hold n
 abbrev pub Fewest : ℕ → ℕ → Type 0

@@ -3,7 +3,7 @@ ghost use Prim.Native.Nat.{_+_, _<_, _≤_, _^_};
 ghost use mathlib.Core.Path.{_≡_};
 ghost use mathlib.Core.List.{_∷_, [], _++_};
 ghost use lib.ListN.{length};
-ghost use Rattle.layout.specs.Text.{LaidOut, decimal};
+ghost use Rattle.layout.specs.Text.{LaidOut, digit, decimal};
 
 // The byte b at offset at, where there is room; the next offset.
 fn byte(out: &mut [u8], at: usize, b: u8) -> usize
@@ -33,7 +33,7 @@ pub(crate) fn word(out: &mut [u8], at: usize, text: &[u8]) -> usize
 // A digit in ASCII.
 fn glyph(d: u64) -> u8
     requires { ⌜ d < 10 ⌝ }
-    ensures { λ r. ⌜ r ≡ 48 + d ⌝ }
+    ensures { λ r. ⌜ r ≡ digit d ⌝ }
 {
     b'0' + (d as u8)
 }

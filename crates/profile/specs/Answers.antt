@@ -66,11 +66,18 @@ highGiven (Valued.Value low high) = high
 highGiven Valued.NoProfile = pos 0
 highGiven (Valued.OutOfRange k) = pos 0
 
+-- the value by the rules, 0 where there is none
+abbrev pub lowByRule : ℕ → ℤ → ℤ
+lowByRule profile t = ifDone (valueNumber profile t) (valueLow (profileOf profile) t) (pos 0)
+
+abbrev pub highByRule : ℕ → ℤ → ℤ
+highByRule profile t = ifDone (valueNumber profile t) (valueHigh (profileOf profile) t) (pos 0)
+
 pub record ValueMet (profile : ℕ) (t : ℤ) (r : ValueAnswer) : Type 0 where
   pub answers : valueAnswered r ≡ valueNumber profile t
   pub places : valuePlaced r ≡ 0
-  pub low : lowGiven r ≡ ifDone (valueNumber profile t) (valueLow (profileOf profile) t) (pos 0)
-  pub high : highGiven r ≡ ifDone (valueNumber profile t) (valueHigh (profileOf profile) t) (pos 0)
+  pub low : lowGiven r ≡ lowByRule profile t
+  pub high : highGiven r ≡ highByRule profile t
   pub powers-enclose : valueNumber profile t ≡ 0 → EnclosedPower (profileOf profile) t
 
 -- ---- day weight

@@ -8,10 +8,10 @@ use Rattle.profile.specs.Coefficients.{profileOf}
 use Rattle.profile.specs.Value.{valueLow, valueHigh}
 
 -- low and high within 0.00001 of 1, in units of 10^-9
-abbrev pub near : ℤ → ℤ → Bool
-near low high = leZ (pos 999_990_000) low && leZ high (pos 1_000_010_000)
+abbrev pub nearOne : ℤ → ℤ → Bool
+nearOne low high = leZ (pos 999_990_000) low && leZ high (pos 1_000_010_000)
 
 -- GHD33 is number 3
 pub record NearOne : Type 0 where
-  pub within : near (valueLow (profileOf 3) (pos 800)) (valueHigh (profileOf 3) (pos 800)) ≡ true
+  pub within : nearOne (valueLow (profileOf 3) (pos 800)) (valueHigh (profileOf 3) (pos 800)) ≡ true
   pub ordered : leZ (valueLow (profileOf 3) (pos 800)) (valueHigh (profileOf 3) (pos 800)) ≡ true

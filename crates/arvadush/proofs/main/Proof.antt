@@ -1,13 +1,13 @@
--- `arvadush::main` ends, and does one job. Assumes nothing.
+-- `arvadush::main` ends, and prints one case. Assumes nothing.
 use mathlib.Core.Path.{refl}
 use borrow.Author.Needs.{needs}
-use Rattle.arvadush.specs.Traces.{DoesOneJob}
+use Rattle.arvadush.specs.Traces.{PrintsOneCase}
 use Rattle.arvadush.proofs.main.Code.Mir as code
 use Rattle.arvadush.proofs.main.Statement.{statement}
 use Rattle.arvadush.proofs.main.Tie as tie
 
-pub does-one-job : DoesOneJob code.function
-does-one-job = refl
+pub prints-one-case : PrintsOneCase code.function
+prints-one-case = refl
 
 print-case-requires : tie.Need-print-case-requires
 print-case-requires c κs = search needs

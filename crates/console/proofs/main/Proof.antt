@@ -13,20 +13,20 @@ answers-one-script = refl
 read-requires : tie.Need-read-requires
 read-requires c κs = search needs
 
-slice-aggregate-answers : tie.Need-slice-aggregate-answers
-slice-aggregate-answers c = search needs
+slice-aggregate-answer : tie.Need-slice-aggregate-answer
+slice-aggregate-answer c = search needs
 
-slice-aggregate-answers-2 : tie.Need-slice-aggregate-answers-2
-slice-aggregate-answers-2 c = search needs
+slice-aggregate-answer-2 : tie.Need-slice-aggregate-answer-2
+slice-aggregate-answer-2 c = search needs
 
-slice-aggregate-answers-3 : tie.Need-slice-aggregate-answers-3
-slice-aggregate-answers-3 c = search needs
+slice-aggregate-answer-3 : tie.Need-slice-aggregate-answer-3
+slice-aggregate-answer-3 c = search needs
 
-slice-aggregate-answers-4 : tie.Need-slice-aggregate-answers-4
-slice-aggregate-answers-4 c = search needs
+slice-aggregate-answer-4 : tie.Need-slice-aggregate-answer-4
+slice-aggregate-answer-4 c = search needs
 
-answers-requires : tie.Need-answers-requires
-answers-requires c κs = (omega arith, omega arith, refl, search needs)
+answer-requires : tie.Need-answer-requires
+answer-requires c κs = (omega arith, omega arith, refl, search needs)
 
 returns : tie.Need-returns
 returns c = search needs
@@ -36,9 +36,9 @@ main-spec =
     tie.close
     (tie.spec
     read-requires
-    slice-aggregate-answers
-    slice-aggregate-answers-2
-    slice-aggregate-answers-3
-    slice-aggregate-answers-4
-    answers-requires
+    slice-aggregate-answer
+    slice-aggregate-answer-2
+    slice-aggregate-answer-3
+    slice-aggregate-answer-4
+    answer-requires
     returns)

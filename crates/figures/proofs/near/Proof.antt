@@ -1,5 +1,6 @@
 -- `figures::near` is safe and ends, and asks what it prints. Assumes nothing.
-use mathlib.Core.Path.{refl}
+use mathlib.Core.Path.{refl, sym}
+use lib.Seq.{length-take-le}
 use borrow.Author.Needs.{needs}
 use Rattle.figures.specs.Near.{Asks}
 use Rattle.figures.proofs.near.Code.Mir as code
@@ -18,8 +19,17 @@ word-requires c κs = search needs
 value-near-one-requires : tie.Need-value-near-one-requires
 value-near-one-requires c κs = search needs
 
-yes-or-no-requires : tie.Need-yes-or-no-requires
-yes-or-no-requires c κs = search needs
+spelled-requires : tie.Need-spelled-requires
+spelled-requires c κs = search needs
+
+array-share-prefix-bytes : tie.Need-array-share-prefix-bytes
+array-share-prefix-bytes c = search needs
+
+slice-aggregate-word-2 : tie.Need-slice-aggregate-word-2
+slice-aggregate-word-2 c = sym (length-take-le _ _ (c .before .before .spelled .ensures .1))
+
+word-requires-2 : tie.Need-word-requires-2
+word-requires-2 c κs = search needs
 
 end-line-requires : tie.Need-end-line-requires
 end-line-requires c κs = search needs
@@ -34,6 +44,9 @@ near-spec =
     slice-aggregate-word
     word-requires
     value-near-one-requires
-    yes-or-no-requires
+    spelled-requires
+    array-share-prefix-bytes
+    slice-aggregate-word-2
+    word-requires-2
     end-line-requires
     returns)

@@ -8,16 +8,16 @@ use mir.Syntax.{w64}
 use mir.Facts.{toZ-ofZ}
 use Rattle.profile.specs.declared.ValueAnswer.{ValueAnswer}
 use Rattle.profile.specs.Answers.{ValueMet, lowGiven, highGiven}
-use Rattle.vectors.specs.Near.{near}
-use Rattle.figures.specs.Near.{valueNear}
+use Rattle.vectors.specs.Near.{nearOne}
+use Rattle.figures.specs.Near.{valueNearOne}
 use Rattle.figures.proofs.value_near_one.Statement.{statement}
 use Rattle.figures.proofs.value_near_one.Tie as tie
 
 abbrev givenNear : ValueAnswer → Bool
-givenNear answer = near (lowGiven answer) (highGiven answer)
+givenNear answer = nearOne (lowGiven answer) (highGiven answer)
 
-given-near : {profile : ℕ} {t : ℤ} {answer : ValueAnswer} → ValueMet profile t answer → givenNear answer ≡ valueNear profile t
-given-near met = ap₂ near (met .low) (met .high)
+given-near : {profile : ℕ} {t : ℤ} {answer : ValueAnswer} → ValueMet profile t answer → givenNear answer ≡ valueNearOne profile t
+given-near met = ap₂ nearOne (met .low) (met .high)
 
 value-requires : tie.Need-value-requires
 value-requires c κs = search needs
@@ -39,7 +39,7 @@ returns c =
     let low = toZ-ofZ {w = w64} {z = c .before .before .low .given .0 .0} (sfits-of (c .before .known-told .given .0 .1)) in
     let high = toZ-ofZ {w = w64} {z = c .before .before .low .given .0 .1 .0} (sfits-of (c .before .known-told .given .1 .0 .1)) in
     let met = simp (toZ-ofZ (c .before .before .before .before .before .fits .t)) at (c .before .before .before .before .value .ensures) in
-    c .near-one .ensures ∙ ap₂ near low high ∙ sym (ap givenNear (c .before .before .low .given .1)) ∙ given-near met
+    c .near-one .ensures ∙ ap₂ nearOne low high ∙ sym (ap givenNear (c .before .before .low .given .1)) ∙ given-near met
 
 returns-2 : tie.Need-returns-2
 returns-2 c =

@@ -1,4 +1,4 @@
--- `printing::print_case` prints the text of what it read: the arrays have the lengths that the reader asks, and no text fills the buffer. It reads once and prints once. Assumes nothing.
+-- `printing::print_case` prints the text of what it read, whose length the arrays and the buffer allow; it reads once and prints once. Assumes nothing.
 use mathlib.Core.Path.{_≡_, refl, sym}
 use native.Mathlib.Omega.{arith}
 use lib.ListN.{length}
@@ -10,8 +10,8 @@ use Rattle.printing.proofs.print_case.Code.Mir as code
 use Rattle.printing.proofs.print_case.Statement.{statement}
 use Rattle.printing.proofs.print_case.Tie as tie
 
-pub prints-once : PrintsCase code.function
-prints-once = refl
+pub prints-case : PrintsCase code.function
+prints-case = refl
 
 read-requires : tie.Need-read-requires
 read-requires c κs = search needs

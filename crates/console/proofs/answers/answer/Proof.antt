@@ -17,8 +17,8 @@ use Rattle.console.proofs.answers.answer.Code.Mir as code
 use Rattle.console.proofs.answers.answer.Statement.{statement}
 use Rattle.console.proofs.answers.answer.Tie as tie
 
-pub calls-these : AnswersInPieces code.function
-calls-these = refl
+pub answers-in-pieces : AnswersInPieces code.function
+answers-in-pieces = refl
 
 abbrev Inv-loop : tie.InvT-loop
 Inv-loop input weights₀ marks₀ counts₀ out₀ end at₀ done₀ days₀ sent₀ weights marks counts out at done days sent =

@@ -6,8 +6,8 @@ use Rattle.console.proofs.input.read.Code.Mir as code
 use Rattle.console.proofs.input.read.Statement.{statement}
 use Rattle.console.proofs.input.read.Tie as tie
 
-pub reads-once : ReadsScript code.function
-reads-once = refl
+pub reads-script : ReadsScript code.function
+reads-script = refl
 
 slice-aggregate-read-full : tie.Need-slice-aggregate-read-full
 slice-aggregate-read-full c = search needs

@@ -1,13 +1,13 @@
 -- `console::printer::counted` meets its contract, and calls nothing. Assumes nothing.
 use mathlib.Core.Path.{refl}
 use borrow.Author.Needs.{needs}
-use Rattle.code.specs.Trace.{CallsNothing}
+use Rattle.console.specs.Traces.{Counts}
 use Rattle.console.proofs.printer.counted.Code.Mir as code
 use Rattle.console.proofs.printer.counted.Statement.{statement}
 use Rattle.console.proofs.printer.counted.Tie as tie
 
-pub calls-nothing : CallsNothing code.function
-calls-nothing = refl
+pub counts : Counts code.function
+counts = refl
 
 returns : tie.Need-returns
 returns c = search needs

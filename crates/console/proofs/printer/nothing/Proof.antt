@@ -1,13 +1,13 @@
 -- `console::printer::nothing` meets its contract, and calls nothing. Assumes nothing.
 use mathlib.Core.Path.{refl}
 use borrow.Author.Needs.{needs}
-use Rattle.code.specs.Trace.{CallsNothing}
+use Rattle.console.specs.Traces.{CountsNothing}
 use Rattle.console.proofs.printer.nothing.Code.Mir as code
 use Rattle.console.proofs.printer.nothing.Statement.{statement}
 use Rattle.console.proofs.printer.nothing.Tie as tie
 
-pub calls-nothing : CallsNothing code.function
-calls-nothing = refl
+pub counts-nothing : CountsNothing code.function
+counts-nothing = refl
 
 returns : tie.Need-returns
 returns c = search needs

@@ -8,8 +8,8 @@ use Rattle.console.proofs.printer.print.Code.Mir as code
 use Rattle.console.proofs.printer.print.Statement.{statement}
 use Rattle.console.proofs.printer.print.Tie as tie
 
-pub writes-once : WritesPiece code.function
-writes-once = refl
+pub writes-piece : WritesPiece code.function
+writes-piece = refl
 
 add-bytes : tie.Need-add-bytes
 add-bytes c =

@@ -1,7 +1,7 @@
 -- `layout::put::number` meets its contract: the digits, at most 20, and the byte after them. Assumes nothing.
 use native.Mathlib.Omega.{arith}
 use borrow.Author.Needs.{needs}
-use Rattle.layout.proofs.Decimal.{decimal-short}
+use Rattle.layout.proofs.Decimal.{decimal-most}
 use Rattle.layout.proofs.Laid.{then-laid}
 use Rattle.layout.proofs.put.number.Statement.{statement}
 use Rattle.layout.proofs.put.number.Tie as tie
@@ -12,7 +12,7 @@ digits-requires c κs = search needs
 byte-requires : tie.Need-byte-requires
 byte-requires c κs =
     let digits = c .before .before .before in
-    omega (arith, digits .digits .ensures .ends, decimal-short (digits .before .before .before .args .n) (digits .before .before .before .fits .n .fits))
+    omega (arith, digits .digits .ensures .ends, decimal-most (digits .before .before .before .args .n))
 
 same-length : tie.Need-same-length
 same-length c = search needs
@@ -20,10 +20,9 @@ same-length c = search needs
 returns : tie.Need-returns
 returns c =
     let byte = c .before .before in
-    let digits = byte .before .before .before .before in
-    let start = digits .before .before .before in (
+    let digits = byte .before .before .before .before in (
       then-laid (digits .digits .ensures) (byte .byte .ensures),
-      omega (arith, byte .byte .ensures .ends, digits .digits .ensures .ends, decimal-short (start .args .n) (start .fits .n .fits)),
+      omega (arith, byte .byte .ensures .ends, digits .digits .ensures .ends, decimal-most (digits .before .before .before .args .n)),
     )
 
 pub number-spec : {M : Type 1} → statement M

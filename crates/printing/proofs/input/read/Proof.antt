@@ -6,8 +6,8 @@ use Rattle.printing.proofs.input.read.Code.Mir as code
 use Rattle.printing.proofs.input.read.Statement.{statement}
 use Rattle.printing.proofs.input.read.Tie as tie
 
-pub reads-once : ReadsFile code.function
-reads-once = refl
+pub reads-file : ReadsFile code.function
+reads-file = refl
 
 slice-aggregate-read-full : tie.Need-slice-aggregate-read-full
 slice-aggregate-read-full c = search needs

@@ -7,8 +7,8 @@ use Rattle.printing.proofs.output.print.Code.Mir as code
 use Rattle.printing.proofs.output.print.Statement.{statement}
 use Rattle.printing.proofs.output.print.Tie as tie
 
-pub writes-once : WritesText code.function
-writes-once = refl
+pub writes-text : WritesText code.function
+writes-text = refl
 
 write-all-requires : tie.Need-write-all-requires
 write-all-requires c κs = search needs

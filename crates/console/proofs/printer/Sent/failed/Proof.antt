@@ -1,13 +1,13 @@
 -- `console::printer::Sent::failed` meets its contract, and calls nothing. Assumes nothing.
 use mathlib.Core.Path.{refl}
 use borrow.Author.Needs.{needs}
-use Rattle.code.specs.Trace.{CallsNothing}
+use Rattle.console.specs.Traces.{TellsFailure}
 use Rattle.console.proofs.printer.Sent.failed.Code.Mir as code
 use Rattle.console.proofs.printer.Sent.failed.Statement.{statement}
 use Rattle.console.proofs.printer.Sent.failed.Tie as tie
 
-pub calls-nothing : CallsNothing code.function
-calls-nothing = refl
+pub tells-failure : TellsFailure code.function
+tells-failure = refl
 
 returns : tie.Need-returns
 returns c = search needs

@@ -8,8 +8,8 @@ use Rattle.printing.proofs.input.Input.case_text.Code.Mir as code
 use Rattle.printing.proofs.input.Input.case_text.Statement.{statement}
 use Rattle.printing.proofs.input.Input.case_text.Tie as tie
 
-pub hands-on : MakesText code.function
-hands-on = refl
+pub makes-text : MakesText code.function
+makes-text = refl
 
 array-share-prefix-buffer : tie.Need-array-share-prefix-buffer
 array-share-prefix-buffer c = search needs

@@ -1,15 +1,15 @@
--- `console::input::Input::answers` meets its contract: what was read is the first part of the buffer. It calls `answer` and nothing else. Assumes nothing.
+-- `console::input::Input::answer` meets its contract: what was read is the first part of the buffer. It calls nothing but the loop. Assumes nothing.
 use mathlib.Core.Path.{refl, sym}
 use native.Mathlib.Omega.{arith}
 use lib.Seq.{length-take-le}
 use borrow.Author.Needs.{needs}
 use Rattle.console.specs.Traces.{AnswersWhatWasRead}
-use Rattle.console.proofs.input.Input.answers.Code.Mir as code
-use Rattle.console.proofs.input.Input.answers.Statement.{statement}
-use Rattle.console.proofs.input.Input.answers.Tie as tie
+use Rattle.console.proofs.input.Input.answer.Code.Mir as code
+use Rattle.console.proofs.input.Input.answer.Statement.{statement}
+use Rattle.console.proofs.input.Input.answer.Tie as tie
 
-pub hands-on : AnswersWhatWasRead code.function
-hands-on = refl
+pub answers-what-was-read : AnswersWhatWasRead code.function
+answers-what-was-read = refl
 
 array-share-prefix-buffer : tie.Need-array-share-prefix-buffer
 array-share-prefix-buffer c = search needs
@@ -35,7 +35,7 @@ same-length-4 c = search needs
 returns : tie.Need-returns
 returns c = search needs
 
-pub answers-spec : {M : Type 1} → statement M
-answers-spec =
+pub answer-spec : {M : Type 1} → statement M
+answer-spec =
     tie.close
     (tie.spec array-share-prefix-buffer slice-aggregate-answer answer-requires same-length same-length-2 same-length-3 same-length-4 returns)
