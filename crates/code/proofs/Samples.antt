@@ -15,6 +15,9 @@ samples =
       branch = refl;
       broken = refl;
       copied-before-turns = refl;
+      lent-in-turns = refl;
       nested = refl;
+      outer-turn = refl;
+      inner-turn = refl;
       continued = refl;
     }

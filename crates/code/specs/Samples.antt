@@ -1,4 +1,4 @@
--- What is read off twelve short pieces of code (Case file), so that `trace` can be seen to tell them apart (proofs/Samples, `samples`).
+-- What is read off fifteen short pieces of code (Case file), so that `trace` can be seen to tell them apart (proofs/Samples, `samples`).
 use Prim.Native.Nat.{ℕ}
 use mathlib.Core.Path.{_≡_}
 use mathlib.Core.List.{List, [], _∷_}
@@ -19,8 +19,11 @@ abbrev pub inOrder : List Body → Body
 inOrder [] = return
 inOrder (step ∷ steps) = seq step (inOrder steps)
 
+abbrev pub tracedShowing : List ℕ → List Body → Trace
+tracedShowing shown steps = bodyTrace shown (inOrder steps)
+
 abbrev pub traced : List Body → Trace
-traced steps = bodyTrace (inOrder steps)
+traced = tracedShowing []
 
 pub record Samples : Type 0 where
   -- r = f(p); return g(r, 7)
@@ -56,14 +59,25 @@ pub record Samples : Type 0 where
       either (parameter 1) (calls "f" [] (returns (parameter 1))) (returns (parameter 1))
   -- x = 3; loop { if p { break }; f(x); x = 4 }; return x
   pub broken :
-      traced (assign (local 2) (rvOpd (int w64 3)) ∷ block (loop (seq (cond (held 1) (exit 1) skip) (seq (call "f" (held 2 ∷ []) (local 3)) (assign (local 2) (rvOpd (int w64 4)))))) ∷ assign (local 0) (rvOpd (held 2)) ∷ []) ≡
-      turns (either (parameter 1) (returns (varies 2)) (calls "f" (varies 2 ∷ []) again))
+      tracedShowing (2 ∷ []) (assign (local 2) (rvOpd (int w64 3)) ∷ block (loop (seq (cond (held 1) (exit 1) skip) (seq (call "f" (held 2 ∷ []) (local 3)) (assign (local 2) (rvOpd (int w64 4)))))) ∷ assign (local 0) (rvOpd (held 2)) ∷ []) ≡
+      turns 0 (number 3 ∷ []) (either (parameter 1) (returns (varies 2 0)) (calls "f" (varies 2 0 ∷ []) (again 0 (number 4 ∷ []))))
   -- p = &x; y = x; loop { f(x, y) }
   pub copied-before-turns :
       traced (assign (local 3) (addrOf (local 2)) ∷ assign (local 4) (rvOpd (held 2)) ∷ loop (call "f" (held 2 ∷ held 4 ∷ []) (local 5)) ∷ []) ≡
-      turns (calls "f" (content 2 1 ∷ content 2 0 ∷ []) again)
+      turns 0 [] (calls "f" (content 2 1 ∷ content 2 0 ∷ []) (again 0 []))
+  -- x = 3; loop { f(x); f(&x) }
+  pub lent-in-turns :
+      traced (assign (local 2) (rvOpd (int w64 3)) ∷ loop (seq (call "f" (held 2 ∷ []) (local 4)) (seq (assign (local 3) (addrOf (local 2))) (call "f" (held 3 ∷ []) (local 4)))) ∷ []) ≡
+      turns 0 [] (calls "f" (content 2 1 ∷ []) (calls "f" (address 2 (content 2 2) ∷ []) (again 0 [])))
+  -- loop { x = f(); y = x; loop { x = g(x, y) } }
+  pub nested :
+      traced (loop (seq (call "f" [] (local 2)) (seq (assign (local 4) (rvOpd (held 2))) (loop (call "g" (held 2 ∷ held 4 ∷ []) (local 2))))) ∷ []) ≡
+      turns 0 [] (calls "f" [] (turns 2 [] (calls "g" (varies 2 2 ∷ answer 1 ∷ []) (again 2 []))))
+  -- loop { loop { f(); break } }
+  pub outer-turn : traced (loop (loop (seq (call "f" [] (local 2)) (exit 1))) ∷ []) ≡ turns 0 [] (turns 1 [] (calls "f" [] (again 0 [])))
   -- loop { loop { f() } }
-  pub nested : traced (loop (loop (call "f" [] (local 2))) ∷ []) ≡ turns (turns (calls "f" [] again))
+  pub inner-turn : traced (loop (loop (call "f" [] (local 2))) ∷ []) ≡ turns 0 [] (turns 1 [] (calls "f" [] (again 1 [])))
   -- loop { if p { continue }; f() }
   pub continued :
-      traced (loop (seq (cond (held 1) (exit 0) skip) (call "f" [] (local 2))) ∷ []) ≡ turns (either (parameter 1) again (calls "f" [] again))
+      traced (loop (seq (cond (held 1) (exit 0) skip) (call "f" [] (local 2))) ∷ []) ≡
+      turns 0 [] (either (parameter 1) (again 0 []) (calls "f" [] (again 0 [])))

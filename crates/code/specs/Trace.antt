@@ -1,20 +1,20 @@
 -- What a function's code calls, in order and with what, and what it returns (Case file): for claims about what is read and written, which no
 -- contract can make.
 use Prim.Native.Nat.{ℕ, zero, suc}
-use mathlib.Core.Bool.{Bool, true, false, cond, _&&_}
+use mathlib.Core.Bool.{Bool, true, false, cond}
 use mathlib.Core.List.{List, [], _∷_, map}
 use lib.Dec.{eqb}
 use mir.Syntax.{Name, Step, Place, Opd, Rv, Body, Fn}
 use mir.Syntax as Mir
 
--- a value in the terms of the function; calls, and loops that are entered, are counted from 0 along the way to where the value stands
+-- a value in the terms of the function; its calls, and the loops that it enters, are counted together from 0 along the way to where the value stands
 pub data Value : Type 0 where
   parameter : ℕ → Value  -- as the caller passed it, from 1
   number : ℕ → Value
   answer : ℕ → Value  -- of this call
   address : ℕ → Value → Value  -- of this local, and what it held when its address was taken
   content : ℕ → ℕ → Value  -- of this local, whose address was taken, after so many of them
-  varies : ℕ → Value  -- what this local, to which a loop stores, holds as a turn begins
+  varies : ℕ → ℕ → Value  -- what this local holds as a turn of this loop begins, which stores to it
   field : ℕ → Value → Value
   pair : Value → Value → Value  -- a struct of two fields; a slice is its start and its length
   other : Value
@@ -23,8 +23,8 @@ pub data Trace : Type 0 where
   calls : Name → List Value → Trace → Trace
   returns : Value → Trace
   either : Value → Trace → Trace → Trace  -- by what a test gave
-  turns : Trace → Trace  -- a loop, of which each turn goes like this
-  again : Trace  -- the turn is at its end
+  turns : ℕ → List Value → Trace → Trace  -- this loop: what the shown locals hold before it, and how a turn of it goes
+  again : ℕ → List Value → Trace  -- the end of a turn of this loop: what the shown locals hold for the next
   unfollowed : Trace  -- a `match`, or a store to a part of a local, through a pointer, or to a local whose address was taken
 
 -- a local has a value, or its address was taken and any call may change it
@@ -109,22 +109,22 @@ abbrev pub store : Place → Value → Locals → (Locals → Trace) → Trace
 store (Mir.place x []) v locals rest = unlessLent (locals x) (rest (set x (has v) locals))
 store (Mir.place x (step ∷ steps)) v locals rest = unfollowed
 
-abbrev pub varying : ℕ → Local → Local
-varying x (has v) = has (varies x)
-varying x lent = lent
+abbrev pub varying : ℕ → ℕ → Local → Local
+varying n x (has v) = has (varies x n)
+varying n x lent = lent
 
--- the locals as a turn of a loop with this code begins
-abbrev pub turning : Body → Locals → Locals
-turning (Mir.assign (Mir.place x steps) v) locals = lending v (set x (varying x (locals x)) locals)
-turning (Mir.call f os (Mir.place x steps)) locals = set x (varying x (locals x)) locals
-turning (Mir.seq a b) locals = turning b (turning a locals)
-turning (Mir.cond o a b) locals = turning b (turning a locals)
-turning (Mir.block b) locals = turning b locals
-turning (Mir.loop b) locals = turning b locals
-turning (Mir.switch o arms) locals = locals
-turning Mir.skip locals = locals
-turning (Mir.exit k) locals = locals
-turning Mir.return locals = locals
+-- the locals as a turn of loop n with this code begins
+abbrev pub turning : ℕ → Body → Locals → Locals
+turning n (Mir.assign (Mir.place x steps) v) locals = lending v (set x (varying n x (locals x)) locals)
+turning n (Mir.call f os (Mir.place x steps)) locals = set x (varying n x (locals x)) locals
+turning n (Mir.seq a b) locals = turning n b (turning n a locals)
+turning n (Mir.cond o a b) locals = turning n b (turning n a locals)
+turning n (Mir.block b) locals = turning n b locals
+turning n (Mir.loop b) locals = turning n b locals
+turning n (Mir.switch o arms) locals = locals
+turning n Mir.skip locals = locals
+turning n (Mir.exit k) locals = locals
+turning n Mir.return locals = locals
 
 -- what follows on code, after so many calls and loops
 abbrev pub Rest : Type 0
@@ -135,22 +135,31 @@ abbrev pub through : Rest → (ℕ → Rest) → ℕ → Rest
 through rest exits zero = rest
 through rest exits (suc k) = exits k
 
--- code after n calls and loops, with what follows on its end and on its exits
-abbrev pub run : Body → ℕ → Locals → Rest → (ℕ → Rest) → Trace
-run Mir.skip n locals rest exits = rest n locals
-run (Mir.seq a b) n locals rest exits = run a n locals (λ m mid. run b m mid rest exits) exits
-run (Mir.assign p v) n locals rest exits = store p (computed n locals v) (lending v locals) (rest n)
-run (Mir.call f os p) n locals rest exits = calls f (map (operand n locals) os) (store p (answer n) locals (rest (suc n)))
-run (Mir.cond o a b) n locals rest exits = either (operand n locals o) (run a n locals rest exits) (run b n locals rest exits)
-run (Mir.block b) n locals rest exits = run b n locals rest (through rest exits)
-run (Mir.loop b) n locals rest exits = turns (run b (suc n) (turning b locals) (λ m end. again) (through (λ m end. again) exits))
-run (Mir.exit k) n locals rest exits = exits k n locals
-run Mir.return n locals rest exits = returns (held 0 n (locals 0))
-run (Mir.switch o arms) n locals rest exits = unfollowed
+-- the locals whose values are shown before a loop and at the end of a turn
+module _ (shown : List ℕ) where
+  abbrev pub values : ℕ → Locals → List Value
+  values n locals = map (λ x. held x n (locals x)) shown
 
--- the parameters are the locals from 1 on; any other local is set before it is read
-abbrev pub bodyTrace : Body → Trace
-bodyTrace b = run b 0 (λ x. has (parameter x)) (λ n locals. unfollowed) (λ k n locals. unfollowed)
+  -- code after n calls and loops, with what follows on its end and on its exits
+  abbrev pub run : Body → ℕ → Locals → Rest → (ℕ → Rest) → Trace
+  run Mir.skip n locals rest exits = rest n locals
+  run (Mir.seq a b) n locals rest exits = run a n locals (λ m mid. run b m mid rest exits) exits
+  run (Mir.assign p v) n locals rest exits = store p (computed n locals v) (lending v locals) (rest n)
+  run (Mir.call f os p) n locals rest exits = calls f (map (operand n locals) os) (store p (answer n) locals (rest (suc n)))
+  run (Mir.cond o a b) n locals rest exits = either (operand n locals o) (run a n locals rest exits) (run b n locals rest exits)
+  run (Mir.block b) n locals rest exits = run b n locals rest (through rest exits)
+  run (Mir.loop b) n locals rest exits =
+      let next : Rest = λ m end. again n (values m end) in turns n (values n locals) (run b (suc n) (turning n b locals) next (through next exits))
+  run (Mir.exit k) n locals rest exits = exits k n locals
+  run Mir.return n locals rest exits = returns (held 0 n (locals 0))
+  run (Mir.switch o arms) n locals rest exits = unfollowed
+
+  -- the parameters are the locals from 1 on; any other local is set before it is read
+  abbrev pub bodyTrace : Body → Trace
+  bodyTrace b = run b 0 (λ x. has (parameter x)) (λ n locals. unfollowed) (λ k n locals. unfollowed)
+
+abbrev pub traceShowing : List ℕ → Fn → Trace
+traceShowing shown f = bodyTrace shown (f .body)
 
 abbrev pub trace : Fn → Trace
-trace f = bodyTrace (f .body)
+trace = traceShowing []

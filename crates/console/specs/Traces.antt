@@ -4,7 +4,7 @@ use mathlib.Core.Path.{_≡_}
 use mathlib.Core.List.{[], _∷_}
 use mir.Syntax.{Fn}
 use Rattle.profile.specs.Limits.{spanMost}
-use Rattle.code.specs.Trace.{trace, calls, returns, either, turns, again, parameter, number, answer, address, varies, field, pair, other}
+use Rattle.code.specs.Trace.{trace, traceShowing, calls, returns, either, turns, again, parameter, number, answer, address, varies, field, pair, other}
 use Rattle.code.specs.Files.{standardInput, standardOutput, slice, lentOn, ReadsOnce, HandsOn}
 use Rattle.layout.specs.Accounts.{textMost}
 use Rattle.script.specs.Input.{scriptMost}
@@ -26,20 +26,22 @@ ReadsScript = ReadsOnce (scriptMost + 1)
 abbrev pub AnswersWhatWasRead : Fn → Type 0
 AnswersWhatWasRead = HandsOn "console::answers::answer"
 
--- a turn runs the next lines of the input, as far as its whole lines go, and prints what they answered, once; then it ends if that write failed
--- (proofs/answers/answer, `answers-in-pieces`)
+-- in local 7, 8, 9 and 10 stand the offset, the lines done, the days and what was sent: a turn runs the input's whole lines from there, prints what
+-- they answered, once, and leaves where the run ended and what was sent, or returns that if the write failed (proofs/answers/answer, `answers-in-pieces`)
 abbrev pub AnswersInPieces : Fn → Type 0
 AnswersInPieces f =
-    trace f ≡
+    traceShowing (7 ∷ 8 ∷ 9 ∷ 10 ∷ []) f ≡
     calls "script::whole_lines" (parameter 1 ∷ [])
     (calls "console::printer::nothing" []
-    (turns
+    (turns 2 (number 0 ∷ number 0 ∷ number 0 ∷ answer 1 ∷ [])
     (either other
-    (calls "session::run" (pair (field 0 (parameter 1)) (answer 0) ∷ varies 7 ∷ varies 8 ∷ varies 9 ∷ lentOn 2 ∷ lentOn 3 ∷ lentOn 4 ∷ lentOn 5 ∷ [])
-    (calls "console::printer::print" (parameter 1 ∷ varies 10 ∷ pair (field 0 (parameter 5)) (field 3 (answer 3)) ∷ [])
+    (calls "session::run" (pair (field 0 (parameter 1)) (answer 0) ∷ varies 7 2 ∷ varies 8 2 ∷ varies 9 2 ∷ lentOn 2 ∷ lentOn 3 ∷ lentOn 4 ∷ lentOn 5 ∷ [])
+    (calls "console::printer::print" (parameter 1 ∷ varies 10 2 ∷ pair (field 0 (parameter 5)) (field 3 (answer 3)) ∷ [])
     (calls "console::printer::Sent::failed" (answer 4 ∷ [])
-    (either (answer 5) (returns (answer 4)) again))))
-    (returns (varies 10)))))
+    (either (answer 5)
+    (returns (answer 4))
+    (again 2 (field 0 (answer 3) ∷ field 1 (answer 3) ∷ field 2 (answer 3) ∷ answer 4 ∷ []))))))
+    (returns (varies 10 2)))))
 
 -- one write of the piece that it is handed, whose answer is counted (proofs/printer/print, `writes-piece`)
 abbrev pub WritesPiece : Fn → Type 0

@@ -9,7 +9,7 @@ use native.Mathlib.Numerals.{add-one}
 use lib.Dec.{eqb}
 use lib.ListN.{length, getD, drop, take, drop-of-length-le, length-drop}
 use lib.Seq.{drop-cons, drop-drop}
-use Rattle.script.specs.Words.{upTo, next, words, wordsLeft, prefixed, same, every}
+use Rattle.script.specs.Words.{upTo, next, words, wordsLeft, begun, same, every}
 
 module _ (b : ℕ) (s : List ℕ) (i : ℕ) where
   pub next-more : i < length s → eqb (getD s i 0) b ≡ false → next b s i ≡ next b s (i + 1)
@@ -51,10 +51,10 @@ words-first s = rw zero-add (go s)
     go (x ∷ s) = by (eqb x 32) (go s)
       where
         by : (space : Bool) → words s ≡ take (length (upTo 32 s)) s ∷ wordsLeft (drop (length (upTo 32 s)) s) →
-            cond space ([] ∷ words s) (prefixed x (words s)) ≡
+            cond space ([] ∷ words s) (begun x (words s)) ≡
             take (length (cond space [] (x ∷ upTo 32 s))) (x ∷ s) ∷ wordsLeft (drop (length (cond space [] (x ∷ upTo 32 s))) (x ∷ s))
         by true e = refl
-        by false e = ap (prefixed x) e
+        by false e = ap (begun x) e
 
 pub upTo-short : (b : ℕ) (s : List ℕ) → length (upTo b s) ≤ length s
 unfolding upTo

@@ -19,15 +19,15 @@ next b text at = at + length (upTo b (drop at text))
 abbrev pub lineEnd : List ℕ → ℕ → ℕ
 lineEnd text at = next 10 text at
 
--- a byte put before the first of some words
-abbrev pub prefixed : ℕ → List (List ℕ) → List (List ℕ)
-prefixed x [] = []
-prefixed x (w ∷ ws) = (x ∷ w) ∷ ws
+-- a byte put before the first of some words or lines, or into one of its own
+abbrev pub begun : ℕ → List (List ℕ) → List (List ℕ)
+begun x [] = (x ∷ []) ∷ []
+begun x (w ∷ ws) = (x ∷ w) ∷ ws
 
 -- the words of a line: what comes between its spaces. A leading, trailing or double space has an empty word beside it.
 unfoldable pub words : List ℕ → List (List ℕ)
 words [] = [] ∷ []
-words (x ∷ s) = cond (eqb x 32) ([] ∷ words s) (prefixed x (words s))
+words (x ∷ s) = cond (eqb x 32) ([] ∷ words s) (begun x (words s))
 
 -- the words left at the end of a word: none at the end of the line, else those after the space
 abbrev pub wordsLeft : List ℕ → List (List ℕ)

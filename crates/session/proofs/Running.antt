@@ -17,11 +17,11 @@ use Rattle.layout.specs.Text.{LaidOut}
 use Rattle.layout.proofs.Laid.{then-laid}
 use Rattle.layout.specs.Accounts.{textMost}
 use Rattle.script.proofs.Split.{upTo-short}
-use Rattle.script.specs.Words.{upTo, lineEnd}
+use Rattle.script.specs.Words.{upTo, lineEnd, begun}
 use Rattle.script.specs.Numbers.{most64}
 use Rattle.script.specs.Calls.{commandOf}
 use Rattle.session.specs.Lines.{Session, session, says, nextSession, StepMet}
-use Rattle.session.specs.Transcript.{begun, lines, transcript, sessionAfter, oneMore, runnable, passed, offsetAfter, GatheredMet, RunMet}
+use Rattle.session.specs.Transcript.{lines, transcript, sessionAfter, oneMore, runnable, passed, offsetAfter, GatheredMet, RunMet}
 use Rattle.session.specs.declared.Said.{Said}
 use Rattle.session.specs.declared.Ran.{Ran}
 use Rattle.session.proofs.Short.{says-short}

@@ -10,12 +10,13 @@ use lib.ListN.{length, take, drop, length-append, length-take, length-drop, drop
 use lib.Seq.{take-append-seam, drop-append-seam, drop-drop}
 use Rattle.account.specs.Account.{Account}
 use Rattle.layout.specs.Accounts.{textMost}
+use Rattle.script.specs.Words.{begun}
 use Rattle.script.specs.Calls.{commandOf}
 use Rattle.script.specs.Numbers.{most64}
 use Rattle.script.specs.Input.{scriptMost, wholeLines, scriptOf}
 use Rattle.script.proofs.Input.{enough-read}
 use Rattle.session.specs.Lines.{Session, session, says, nextSession}
-use Rattle.session.specs.Transcript.{begun, lines, transcript, RunMet}
+use Rattle.session.specs.Transcript.{lines, transcript, RunMet}
 use Rattle.session.specs.Script.{scriptText, fresh, Continues}
 use Rattle.session.specs.declared.Ran.{Ran}
 use Rattle.session.proofs.Short.{says-short}

@@ -8,16 +8,12 @@ use lib.ListN.{length, drop}
 use Rattle.account.specs.Account.{Account}
 use Rattle.layout.specs.Text.{LaidOut}
 use Rattle.layout.specs.Accounts.{textMost}
+use Rattle.script.specs.Words.{begun}
 use Rattle.script.specs.Numbers.{most64}
 use Rattle.script.specs.Calls.{commandOf}
 use Rattle.session.specs.Lines.{Session, session, says, nextSession}
 use Rattle.session.specs.declared.Said.{Said}
 use Rattle.session.specs.declared.Ran.{Ran}
-
--- a byte put before the first of some lines
-abbrev pub begun : ℕ → List (List ℕ) → List (List ℕ)
-begun x [] = (x ∷ []) ∷ []
-begun x (l ∷ ls) = (x ∷ l) ∷ ls
 
 -- the lines of a text: a line feed ends each, or the end of the text the last
 unfoldable pub lines : List ℕ → List (List ℕ)
