@@ -3,7 +3,7 @@ use Prim.Native.Nat.{ℕ}
 use mathlib.Core.Path.{_≡_}
 use mathlib.Core.List.{[], _∷_}
 use mir.Syntax.{Name, Fn}
-use Rattle.code.specs.Trace.{Value, number, parameter, answer, address, content, field, pair, other, calls, returns, trace}
+use Rattle.code.specs.Trace.{Value, number, parameter, answer, address, content, field, pair, filled, calls, returns, trace}
 
 abbrev pub standardInput : Value
 standardInput = number 0
@@ -15,13 +15,20 @@ standardOutput = number 1
 abbrev pub slice : Value → ℕ → Value
 slice start n = pair start (number n)
 
+-- the address of a local of the function's own, an array of n zeros, and the whole of it as a slice
+abbrev pub array : ℕ → ℕ → Value
+array x n = address x (filled (number 0) n)
+
+abbrev pub buffer : ℕ → ℕ → Value
+buffer x n = slice (array x n) n
+
 -- a slice that was lent to the function, lent on
 abbrev pub lentOn : ℕ → Value
 lentOn k = pair (field 0 (parameter k)) (field 1 (parameter k))
 
 -- one read of the file that is its parameter, into the whole of a buffer; it returns the buffer as the read left it, and the read's answer
 abbrev pub ReadsOnce : ℕ → Fn → Type 0
-ReadsOnce most f = trace f ≡ calls "io::read_full" (parameter 1 ∷ slice (address 2 other) most ∷ []) (returns (pair (content 2 1) (answer 0)))
+ReadsOnce most f = trace f ≡ calls "io::read_full" (parameter 1 ∷ buffer 2 most ∷ []) (returns (pair (content 2 1) (answer 0)))
 
 -- one call of g, on the bytes that its first parameter holds, a buffer and how many were read, and on four slices lent on
 abbrev pub HandsOn : Name → Fn → Type 0

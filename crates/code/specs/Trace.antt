@@ -4,7 +4,7 @@ use Prim.Native.Nat.{ℕ, zero, suc}
 use mathlib.Core.Bool.{Bool, true, false, cond}
 use mathlib.Core.List.{List, [], _∷_, map}
 use lib.Dec.{eqb}
-use mir.Syntax.{Name, Step, Place, Opd, Rv, Body, Fn}
+use mir.Syntax.{Name, Step, Place, Opd, Op1, Op2, Rv, Body, Fn}
 use mir.Syntax as Mir
 
 -- a value in the terms of the function; its calls, and the loops that it enters, are counted together from 0 along the way to where the value stands
@@ -17,6 +17,9 @@ pub data Value : Type 0 where
   varies : ℕ → ℕ → Value  -- what this local holds as a turn of this loop begins, which stores to it
   field : ℕ → Value → Value
   pair : Value → Value → Value  -- a struct of two fields; a slice is its start and its length
+  filled : Value → ℕ → Value  -- an array of so many of these
+  op1 : Op1 → Value → Value
+  op2 : Op2 → Value → Value → Value
   other : Value
 
 pub data Trace : Type 0 where
@@ -80,9 +83,9 @@ computed n locals (Mir.rvOpd o) = operand n locals o
 computed n locals (Mir.addrOf (Mir.place x [])) = address x (held x n (locals x))
 computed n locals (Mir.addrOf (Mir.place x (step ∷ steps))) = pointer (step ∷ steps) (held x n (locals x))
 computed n locals (Mir.aggregate os) = struct (map (operand n locals) os)
-computed n locals (Mir.repeat o k) = other
-computed n locals (Mir.op1 f a) = other
-computed n locals (Mir.op2 f a b) = other
+computed n locals (Mir.repeat o k) = filled (operand n locals o) k
+computed n locals (Mir.op1 f a) = op1 f (operand n locals a)
+computed n locals (Mir.op2 f a b) = op2 f (operand n locals a) (operand n locals b)
 
 -- whether a place is the local itself or a part of it, and not behind a pointer that it holds
 abbrev pub inside : List Step → Bool

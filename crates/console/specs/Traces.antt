@@ -2,10 +2,10 @@
 use Prim.Native.Nat.{_+_}
 use mathlib.Core.Path.{_≡_}
 use mathlib.Core.List.{[], _∷_}
-use mir.Syntax.{Fn}
+use mir.Syntax.{Fn, unsigned, add, lt, bitNot}
 use Rattle.profile.specs.Limits.{spanMost}
-use Rattle.code.specs.Trace.{trace, traceShowing, calls, returns, either, turns, again, parameter, number, answer, address, varies, field, pair, other}
-use Rattle.code.specs.Files.{standardInput, standardOutput, slice, lentOn, ReadsOnce, HandsOn}
+use Rattle.code.specs.Trace.{trace, traceShowing, calls, returns, either, turns, again, parameter, number, answer, varies, field, pair, op1, op2, other}
+use Rattle.code.specs.Files.{standardInput, standardOutput, buffer, lentOn, ReadsOnce, HandsOn}
 use Rattle.layout.specs.Accounts.{textMost}
 use Rattle.script.specs.Input.{scriptMost}
 
@@ -15,7 +15,7 @@ AnswersOneScript f =
     trace f ≡
     calls "console::input::read" (standardInput ∷ [])
     (calls "console::input::Input::answer"
-    (answer 0 ∷ slice (address 2 other) spanMost ∷ slice (address 3 other) (spanMost + 1) ∷ slice (address 4 other) (spanMost + 1) ∷ slice (address 5 other) (textMost + 1_024) ∷ [])
+    (answer 0 ∷ buffer 2 spanMost ∷ buffer 3 (spanMost + 1) ∷ buffer 4 (spanMost + 1) ∷ buffer 5 (textMost + 1_024) ∷ [])
     (returns other))
 
 -- one byte more than a script can have (proofs/input/read, `reads-script`)
@@ -34,7 +34,7 @@ AnswersInPieces f =
     calls "script::whole_lines" (parameter 1 ∷ [])
     (calls "console::printer::nothing" []
     (turns 2 (number 0 ∷ number 0 ∷ number 0 ∷ answer 1 ∷ [])
-    (either other
+    (either (op2 (lt unsigned) (varies 7 2) (answer 0))
     (calls "session::run" (pair (field 0 (parameter 1)) (answer 0) ∷ varies 7 2 ∷ varies 8 2 ∷ varies 9 2 ∷ lentOn 2 ∷ lentOn 3 ∷ lentOn 4 ∷ lentOn 5 ∷ [])
     (calls "console::printer::print" (parameter 1 ∷ varies 10 2 ∷ pair (field 0 (parameter 5)) (field 3 (answer 3)) ∷ [])
     (calls "console::printer::Sent::failed" (answer 4 ∷ [])
@@ -46,11 +46,14 @@ AnswersInPieces f =
 -- one write of the piece that it is handed, whose answer is counted (proofs/printer/print, `writes-piece`)
 abbrev pub WritesPiece : Fn → Type 0
 WritesPiece f =
-    trace f ≡ calls "io::write_all" (standardOutput ∷ parameter 3 ∷ []) (calls "console::printer::counted" (other ∷ answer 0 ∷ []) (returns (answer 1)))
+    trace f ≡
+    calls "io::write_all" (standardOutput ∷ parameter 3 ∷ [])
+    (calls "console::printer::counted" (op2 (add unsigned) (field 0 (parameter 2)) (field 1 (parameter 3)) ∷ answer 0 ∷ [])
+    (returns (answer 1)))
 
 -- no call: what was counted, the count at the start, and whether a write failed (proofs/printer)
 abbrev pub Counts : Fn → Type 0
-Counts f = trace f ≡ returns (pair (parameter 1) other)
+Counts f = trace f ≡ returns (pair (parameter 1) (op1 bitNot (parameter 2)))
 
 abbrev pub CountsNothing : Fn → Type 0
 CountsNothing f = trace f ≡ returns (pair (number 0) other)

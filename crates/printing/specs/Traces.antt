@@ -4,8 +4,8 @@ use mathlib.Core.Path.{_≡_}
 use mathlib.Core.List.{[], _∷_}
 use mir.Syntax.{Fn}
 use Rattle.profile.specs.Limits.{spanMost}
-use Rattle.code.specs.Trace.{trace, calls, returns, parameter, answer, address, content, field, pair, other}
-use Rattle.code.specs.Files.{standardOutput, slice, ReadsOnce, HandsOn}
+use Rattle.code.specs.Trace.{trace, calls, returns, parameter, answer, address, content, field, pair}
+use Rattle.code.specs.Files.{standardOutput, slice, buffer, ReadsOnce, HandsOn}
 use Rattle.layout.specs.Accounts.{textMost}
 use Rattle.casefile.specs.Length.{bytesRead}
 
@@ -15,7 +15,7 @@ PrintsCase f =
     trace f ≡
     calls "printing::input::read" (parameter 1 ∷ [])
     (calls "printing::input::Input::case_text"
-    (answer 0 ∷ slice (parameter 2) spanMost ∷ slice (parameter 3) (spanMost + 1) ∷ slice (parameter 4) (spanMost + 1) ∷ slice (address 6 other) textMost ∷ [])
+    (answer 0 ∷ slice (parameter 2) spanMost ∷ slice (parameter 3) (spanMost + 1) ∷ slice (parameter 4) (spanMost + 1) ∷ buffer 6 textMost ∷ [])
     (calls "printing::output::print" (answer 0 ∷ pair (address 6 (content 6 2)) (answer 1) ∷ [])
     (returns (answer 2))))
 

@@ -1,0 +1,2 @@
+-- What crate cases claims of its code (Case file).
+pub mod Traces
