@@ -163,18 +163,18 @@ unfaulted : {f : Fault} {n next : ℕ} {p : SectionEnd} → Reached f n next p �
 unfaulted {p = p} r e = told-none (p .number) (p .place) (r .tells ∙ e)
 
 -- the three sections fill the slices with the account that the file names
-pub filled-case : {s weights marks counts cut : List ℕ} {span filed p : SectionEnd} → SpanMet s span weights → ReadingsMet s (beforeCutsFault s) filed marks counts → CutsMet s (faultOf s) p cut
+pub filled-case : {s weights marks counts cut : List ℕ} {means readings p : SectionEnd} → SpanMet s means weights → ReadingsMet s (beforeCutsFault s) readings marks counts → CutsMet s (faultOf s) p cut
     → FillMet s p (account weights cut counts)
 filled-case {s} a b c =
     record {
       reached = c .reached;
       fills = λ z.
           let e = none-both (beforeCutsFault s) (cutsFault s) (in-order s ∙ clean (c .reached) z) .0 in
-          let filed = unfaulted (b .reached) e in
+          let read = unfaulted (b .reached) e in
           let span = unfaulted (a .reached) (none-both (spanFault s) (readingsFault s) e .0) in
           let k = cuts-kept s (cutsLength s) in
           λ i. account
           ((a .weighed span ∙ ap (filled spanMost) (sym (k .weights-are))) i)
           (c .marks-are z i)
-          ((b .counts-are filed ∙ ap (filled (spanMost + 1)) (sym (cuts-counts s (cutsLength s)))) i);
+          ((b .counts-are read ∙ ap (filled (spanMost + 1)) (sym (cuts-counts s (cutsLength s)))) i);
     }

@@ -190,9 +190,9 @@ module _ {s t : List ℕ} (a : Alike s t) where
   fault-same : faultOf s ≡ faultOf t
   fault-same =
       let span-same = both-same (headFault s) (meansFault s) head-same means-same in
-      let filed-same = both-same (spanFault s) (readingsFault s) span-same (λ e. readings-same (none-both (headFault s) (meansFault s) e .0)) in
+      let before-cuts-same = both-same (spanFault s) (readingsFault s) span-same (λ e. readings-same (none-both (headFault s) (meansFault s) e .0)) in
       sym (in-order s) ∙
-      both-same (beforeCutsFault s) (cutsFault s) filed-same
+      both-same (beforeCutsFault s) (cutsFault s) before-cuts-same
       (λ e.
       let f = none-both (spanFault s) (readingsFault s) e in
       cuts-same (none-both (headFault s) (meansFault s) (f .0) .0) (f .1)) ∙

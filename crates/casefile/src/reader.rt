@@ -67,9 +67,9 @@ pub(crate) fn fill(
     ensures { λ p. ⌜ FillMet (now (file .entry)) p (accountIn (weights .exit) (marks .exit) (counts .exit)) ⌝ }
 {
     let start = new(file);
-    let span = span(start, weights);
-    let after_means = moved(start, span.next);
-    let filed = readings(after_means, span, marks, counts);
-    let after_readings = moved(after_means, filed.next);
-    cuts(after_readings, filed, marks)
+    let means_end = span(start, weights);
+    let after_means = moved(start, means_end.next);
+    let readings_end = readings(after_means, means_end, marks, counts);
+    let after_readings = moved(after_means, readings_end.next);
+    cuts(after_readings, readings_end, marks)
 }
