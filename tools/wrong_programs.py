@@ -73,16 +73,18 @@ def check_wrong(copy, crate, pairs):
 def try_crate(copies, crate):
     """The number of wrong programs of a crate, and how many of them were not refused by a fact."""
     copy = copies.get()
-    count = missed = 0
-    if not check(copy, crate)[0]:
-        raise SystemExit(f"{crate} is not proved as it is")
-    for name, pairs in wrong_programs(crate):
-        proved, first = check_wrong(copy, crate, pairs)
-        verdict = "NOT REFUSED" if proved else "UNFIT" if UNFIT in first or first == NOTHING else "refused"
-        count, missed = count + 1, missed + (verdict != "refused")
-        print(f"{crate}/{name}: {verdict} ({first[:110]})", flush=True)
-    copies.put(copy)
-    return count, missed
+    try:
+        count = missed = 0
+        if not check(copy, crate)[0]:
+            raise SystemExit(f"{crate} is not proved as it is")
+        for name, pairs in wrong_programs(crate):
+            proved, first = check_wrong(copy, crate, pairs)
+            verdict = "NOT REFUSED" if proved else "UNFIT" if UNFIT in first or first == NOTHING else "refused"
+            count, missed = count + 1, missed + (verdict != "refused")
+            print(f"{crate}/{name}: {verdict} ({first[:110]})", flush=True)
+        return count, missed
+    finally:
+        copies.put(copy)
 
 
 def main(crates):

@@ -26,7 +26,7 @@ neither true b h = absurd (clash refl h)
 neither false b h = (refl, h)
 
 -- what holds below m and at m holds below suc m
-pub below-suc {ℓ} : (P : ℕ → Type ℓ) (m : ℕ) → ((k : ℕ) → k < m → P k) → P m → (k : ℕ) → k < suc m → P k
+below-suc {ℓ} : (P : ℕ → Type ℓ) (m : ℕ) → ((k : ℕ) → k < m → P k) → P m → (k : ℕ) → k < suc m → P k
 below-suc P m all here k h = ⊎-elim (λ e. subst P (sym e) here) (λ lt. all k lt) (eq-or-lt-of-le (le-of-suc-le-suc h))
 
 -- k is the first boundary at which p holds, and lies below m
@@ -175,57 +175,31 @@ module _ (p : ℕ → Bool) where
   unfolding last
   last-below e h = rw (e, h)
 
-  -- no p below k where there is none below a later boundary
-  some-less : (m k : ℕ) → k ≤ m → somewhere p m ≡ false → somewhere p k ≡ false
-  unfolding somewhere
-  some-less zero k l e =
-      let none : k ≡ 0 = omega arith in
-      subst (λ (j : ℕ). somewhere p j ≡ false) (sym none) e
-  some-less (suc m) k l e =
-      ⊎-elim
-      (λ q. subst (λ (j : ℕ). somewhere p j ≡ false) (sym q) e)
-      (λ s. some-less m k (le-of-suc-le-suc s) (neither (somewhere p m) (p m) e .0))
-      (eq-or-lt-of-le l)
-
-  first-by : (m k : ℕ) (b c : Bool) → somewhere p m ≡ b → p m ≡ c → (k ≤ first p m → somewhere p k ≡ false) → k ≤ cond b (first p m) (cond c m (suc m)) → somewhere p k ≡ false
-  unfolding somewhere
-  first-by m k true c e h below l = below l
-  first-by m k false true e h below l = some-less m k l e
-  first-by m k false false e h below l = some-less (suc m) k l (rw (e, h))
-
   -- there is none before the first, and it is one
   pub first-below : (m k : ℕ) → k ≤ first p m → somewhere p k ≡ false
-  unfolding first
-  first-below zero k l = some-less 0 k l (some-zero)
-  first-below (suc m) k l = first-by m k (somewhere p m) (p m) refl refl (first-below m k) l
-
-  some-first : (m : ℕ) → somewhere p m ≡ true → p (first p m) ≡ true
-  unfolding somewhere first
-  some-first zero e = cc
-  some-first (suc m) e = go (somewhere p m) (p m) refl refl (some-first m)
+  first-below m k l = none-is k (λ j h. go j (omega arith) (somewhere p m) refl)
     where
-      go : (b c : Bool) → somewhere p m ≡ b → p m ≡ c → (somewhere p m ≡ true → p (first p m) ≡ true) → p (cond b (first p m) (cond c m (suc m))) ≡ true
-      go true c f h holds = holds f
-      go false true f h holds = h
-      go false false f h holds = cc
+      go : (j : ℕ) → j < first p m → (b : Bool) → somewhere p m ≡ b → p j ≡ false
+      go j h true e = first-some m e .none-before j h
+      go j h false e = none-at m e j (omega (arith, first-none m e))
 
   pub first-holds : (m : ℕ) → first p m < m → p (first p m) ≡ true
-  first-holds m l = some-first m (go (somewhere p m) refl)
+  first-holds m l = go (somewhere p m) refl
     where
-      go : (b : Bool) → somewhere p m ≡ b → somewhere p m ≡ true
-      go true e = e
+      go : (b : Bool) → somewhere p m ≡ b → p (first p m) ≡ true
+      go true e = first-some m e .holds
       go false e = let end = first-none m e in absurd (omega arith)
 
   -- the last is one if it is not 0, and there is none after it
   pub last-less : (m : ℕ) → 0 < m → last p m < m
   unfolding last
   last-less zero l = l
-  last-less (suc m) l = go (p m) m refl (last-less m)
+  last-less (suc m) l = go (p m) m (last-less m)
     where
-      go : (c : Bool) (m : ℕ) → m ≡ m → (0 < m → last p m < m) → cond c m (last p m) < suc m
-      go true m e below = omega arith
-      go false zero e below = omega arith
-      go false (suc m) e below = let s = below (omega arith) in omega arith
+      go : (c : Bool) (m : ℕ) → (0 < m → last p m < m) → cond c m (last p m) < suc m
+      go true m below = omega arith
+      go false zero below = omega arith
+      go false (suc m) below = let s = below (omega arith) in omega arith
 
   pub last-holds : (m : ℕ) → 0 < last p m → p (last p m) ≡ true
   unfolding last

@@ -1,4 +1,4 @@
--- The laws that the proofs of crate account share, and its theorems.
+-- The laws that the proofs of crate account share, and its theorems (Account and its calls).
 pub mod Below
 pub mod Clear
 pub mod Order

@@ -3,15 +3,15 @@
 use Prim.Native.Nat.{ℕ, zero, suc, _≤_, _<_}
 use mathlib.Core.Path.{_≡_, refl}
 use mathlib.Core.Logic.{⊎-elim}
-use mathlib.Core.Bool.{Bool, true, false, cond, _&&_}
+use mathlib.Core.Bool.{Bool, true, false, cond, _&&_, and-false}
 use native.Mathlib.Nat.{eq-or-lt-of-le}
 use native.Mathlib.Omega.{arith}
 use lib.Dec.{leb, ltb, eqb}
-use borrow.Author.Tests.{le-leb, eqb-true, eqb-false, lt-ltb, ltb-false}
+use borrow.Author.Tests.{le-leb, eqb-true, eqb-false, lt-ltb, le-ltb, ltb-false}
 use Rattle.account.specs.Below.{somewhere, last}
 use Rattle.account.specs.Stands.{Readings, withReading, neverFalling, lastLessFirst, firstReading, lastReading}
-use Rattle.account.specs.Refusals.{outOfOrder}
-use Rattle.account.proofs.Below.{clash, neither, none-at, first-found, last-found, first-least, last-most, last-less, last-holds, some-at, first-some, rising}
+use Rattle.account.specs.Refusals.{belowEarlier, aboveLater, outOfOrder, EqualCounts}
+use Rattle.account.proofs.Below.{clash, neither, none-at, none-is, first-found, last-found, first-least, last-most, last-less, last-holds, some-at, first-some, rising}
 
 -- of two readings below m the later has at least what the earlier has
 abbrev pub Rising : Readings → ℕ → Type 0
@@ -74,25 +74,31 @@ module _ (r s : Readings) (within : Within r s) where
           omega (arith, within .same (lastReading n r) e, within .same (firstReading n r) (first-r .holds))
       go false e = let z = last-none (r .at) (suc n) e in rw z (omega (arith, zeros (rw z at e)))
 
--- the two tests of row 8 at a boundary i
-abbrev under : Readings → ℕ → ℕ → ℕ → Bool
-under r k v i = ltb i k && (r .at i && ltb v (r .count i))
+pub equal-counts : EqualCounts
+unfolding outOfOrder
+equal-counts n r k v same =
+    rw (none-is (belowEarlier r k v) (suc n) (λ j h. equal j k (r .at j) refl), none-is (aboveLater r k v) (suc n) (λ j h. equal-too j k (r .at j) refl)) refl
+  where
+    equal : (i j : ℕ) (b : Bool) → r .at i ≡ b → (ltb i j && (b && ltb v (r .count i))) ≡ false
+    equal i j true e = rw (same i e, le-ltb v v (omega arith)) (and-false (ltb i j))
+    equal i j false e = and-false (ltb i j)
 
-abbrev over : Readings → ℕ → ℕ → ℕ → Bool
-over r k v i = ltb k i && (r .at i && ltb (r .count i) v)
+    equal-too : (i j : ℕ) (b : Bool) → r .at i ≡ b → (ltb j i && (b && ltb (r .count i) v)) ≡ false
+    equal-too i j true e = rw (same i e, le-ltb v v (omega arith)) (and-false (ltb j i))
+    equal-too i j false e = and-false (ltb j i)
 
 module _ (n : ℕ) (r : Readings) (k v : ℕ) (fits : outOfOrder n r k v ≡ false) where
-  neither-row : (somewhere (under r k v) (suc n) ≡ false) × (somewhere (over r k v) (suc n) ≡ false)
+  neither-row : (somewhere (belowEarlier r k v) (suc n) ≡ false) × (somewhere (aboveLater r k v) (suc n) ≡ false)
   unfolding outOfOrder
   neither-row = neither _ _ fits
 
   not-below : (j : ℕ) → j < suc n → r .at j ≡ true → j < k → r .count j ≤ v
   not-below j lt at less =
-      ltb-false v (r .count j) (rw (lt-ltb j k less, at) at (none-at (under r k v) (suc n) (neither-row .0) j lt))
+      ltb-false v (r .count j) (rw (lt-ltb j k less, at) at (none-at (belowEarlier r k v) (suc n) (neither-row .0) j lt))
 
   not-above : (j : ℕ) → j < suc n → r .at j ≡ true → k < j → v ≤ r .count j
   not-above j lt at less =
-      ltb-false (r .count j) v (rw (lt-ltb k j less, at) at (none-at (over r k v) (suc n) (neither-row .1) j lt))
+      ltb-false (r .count j) v (rw (lt-ltb k j less, at) at (none-at (aboveLater r k v) (suc n) (neither-row .1) j lt))
 
   pub more-rise : Rising r (suc n) → Rising (withReading r k v) (suc n)
   more-rise rises i j le lt = go (eqb i k) refl (eqb j k) refl

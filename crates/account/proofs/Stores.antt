@@ -13,7 +13,7 @@ use Rattle.account.proofs.Sound.{sound-parts, mark-most}
 use Rattle.account.proofs.Rows.{row-none, allowed, boundary-through}
 
 -- each mark is made of whether it marks a reading and whether it marks a cut
-mark-is : (m : ℕ) → m ≤ 3 → m ≡ markOf (marksReading m) (marksCut m)
+pub mark-is : (m : ℕ) → m ≤ 3 → m ≡ markOf (marksReading m) (marksCut m)
 mark-is zero l = refl
 mark-is (suc zero) l = refl
 mark-is (suc (suc zero)) l = refl

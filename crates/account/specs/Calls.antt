@@ -1,4 +1,4 @@
--- The account's calls (Account and its calls): for each, one record that says what it answers and what every slice holds after it.
+-- The account's calls (Account and its calls): for each, what it answers and what every slice holds after it.
 use Prim.Native.Nat.{ℕ}
 use mathlib.Core.Path.{_≡_}
 use mathlib.Core.Bool.{Bool, true, false}
@@ -39,26 +39,26 @@ cutPut a k = account (a .weights) (set (a .marks) k (markOf (shown a .readings .
 abbrev pub cutTaken : Account → ℕ → Account
 cutTaken a k = account (a .weights) (set (a .marks) k (markOf (shown a .readings .at k) false)) (a .counts)
 
+-- a call to which the table gives the number `said`: it answers that, and where it is 0 leaves the account as `done`;
 -- "A refused call changes nothing in the account."
-pub record OpenMet (before : Account) (answer : Answer) (after : Account) : Type 0 where
-  pub answers : number answer ≡ openNumber before
-  pub leaves : after ≡ ifDone (openNumber before) (cleared before) before
+pub record CallMet (said : ℕ) (done before : Account) (answered : ℕ) (after : Account) : Type 0 where
+  pub answers : answered ≡ said
+  pub leaves : after ≡ ifDone said done before
 
-pub record ReadingMet (before : Account) (k v : ℕ) (answer : Answer) (after : Account) : Type 0 where
-  pub answers : number answer ≡ readingNumber before k v
-  pub leaves : after ≡ ifDone (readingNumber before k v) (readingPut before k v) before
+abbrev pub OpenMet : (before : Account) (answered : ℕ) (after : Account) → Type 0
+OpenMet before = CallMet (openNumber before) (cleared before) before
 
-pub record WithdrawMet (before : Account) (k : ℕ) (answer : Answer) (after : Account) : Type 0 where
-  pub answers : number answer ≡ withdrawNumber before k
-  pub leaves : after ≡ ifDone (withdrawNumber before k) (readingTaken before k) before
+abbrev pub ReadingMet : (before : Account) (k v answered : ℕ) (after : Account) → Type 0
+ReadingMet before k v = CallMet (readingNumber before k v) (readingPut before k v) before
 
-pub record CutMet (before : Account) (k : ℕ) (answer : Answer) (after : Account) : Type 0 where
-  pub answers : number answer ≡ cutNumber before k
-  pub leaves : after ≡ ifDone (cutNumber before k) (cutPut before k) before
+abbrev pub WithdrawMet : (before : Account) (k answered : ℕ) (after : Account) → Type 0
+WithdrawMet before k = CallMet (withdrawNumber before k) (readingTaken before k) before
 
-pub record UncutMet (before : Account) (k : ℕ) (answer : Answer) (after : Account) : Type 0 where
-  pub answers : number answer ≡ uncutNumber before k
-  pub leaves : after ≡ ifDone (uncutNumber before k) (cutTaken before k) before
+abbrev pub CutMet : (before : Account) (k answered : ℕ) (after : Account) → Type 0
+CutMet before k = CallMet (cutNumber before k) (cutPut before k) before
+
+abbrev pub UncutMet : (before : Account) (k answered : ℕ) (after : Account) → Type 0
+UncutMet before k = CallMet (uncutNumber before k) (cutTaken before k) before
 
 -- rows 3 and 5 asked alone (0: neither), and the weights asked alone
 pub record CheckMet (before : Account) (answered : ℕ) (after : Account) : Type 0 where

@@ -1,18 +1,27 @@
 -- The table of refusals for the account's calls (If a call declines), row by row in the order in which they are checked.
 -- 0 is done: "a call is accepted if no condition of the table holds for it".
 use Prim.Native.Nat.{ℕ, suc}
-use mathlib.Core.Bool.{Bool, not, _&&_, _||_}
+use mathlib.Core.Path.{_≡_}
+use mathlib.Core.Bool.{Bool, true, false, not, _&&_, _||_}
 use lib.Dec.{ltb}
 use Rattle.profile.specs.Rows.{row}
 use Rattle.account.specs.Below.{somewhere}
 use Rattle.account.specs.Stands.{Stands, Readings, withReading, lastLessFirst}
 use Rattle.account.specs.Account.{Account, days, shown, unfit, sound, goodWeights, energyMost}
 
--- 8: "count below an earlier or above a later reading"
+-- 8: "count below an earlier or above a later reading", the one at j
+abbrev pub belowEarlier : Readings → ℕ → ℕ → ℕ → Bool
+belowEarlier r k v j = ltb j k && (r .at j && ltb v (r .count j))
+
+abbrev pub aboveLater : Readings → ℕ → ℕ → ℕ → Bool
+aboveLater r k v j = ltb k j && (r .at j && ltb (r .count j) v)
+
 unfoldable pub outOfOrder : ℕ → Readings → ℕ → ℕ → Bool
-outOfOrder n r k v =
-    somewhere (λ j. ltb j k && (r .at j && ltb v (r .count j))) (suc n) ||
-    somewhere (λ j. ltb k j && (r .at j && ltb (r .count j) v)) (suc n)
+outOfOrder n r k v = somewhere (belowEarlier r k v) (suc n) || somewhere (aboveLater r k v) (suc n)
+
+-- "Readings may have equal counts": a count that every standing reading has is never 8 (proofs/Pairs, `equal-counts`)
+abbrev pub EqualCounts : Type 0
+EqualCounts = (n : ℕ) (r : Readings) (k v : ℕ) → ((j : ℕ) → r .at j ≡ true → r .count j ≡ v) → outOfOrder n r k v ≡ false
 
 -- 9: last less first above 2,000,000,000, the call's own count taken in among those standing
 abbrev pub tooMuch : ℕ → Readings → ℕ → ℕ → Bool

@@ -35,7 +35,7 @@ pub const ENERGY_MOST: u64 = 2_000_000_000;
 
 // Clears marks and counts, whatever they held.
 pub fn open(weights: &[u32], marks: &mut [u8], counts: &mut [u64]) -> Answer
-    ensures { λ r. ⌜ OpenMet (accountIn (weights .entry) (marks .entry) (counts .entry)) r (accountIn (weights .exit) (marks .exit) (counts .exit)) ⌝ }
+    ensures { λ r. ⌜ OpenMet (accountIn (weights .entry) (marks .entry) (counts .entry)) (number r) (accountIn (weights .exit) (marks .exit) (counts .exit)) ⌝ }
 {
     if unfit(weights.len(), marks.len(), counts.len()) {
         return Answer::Unfit;
@@ -50,7 +50,7 @@ pub fn open(weights: &[u32], marks: &mut [u8], counts: &mut [u64]) -> Answer
 
 // Sets a reading of count v at boundary k.
 pub fn reading(weights: &[u32], marks: &mut [u8], counts: &mut [u64], k: usize, v: u64) -> Answer
-    ensures { λ r. ⌜ ReadingMet (accountIn (weights .entry) (marks .entry) (counts .entry)) k v r (accountIn (weights .exit) (marks .exit) (counts .exit)) ⌝ }
+    ensures { λ r. ⌜ ReadingMet (accountIn (weights .entry) (marks .entry) (counts .entry)) k v (number r) (accountIn (weights .exit) (marks .exit) (counts .exit)) ⌝ }
 {
     let answer = reading_answer(weights, &marks[..], &counts[..], k, v);
     if number_of(answer) == 0 {
@@ -63,7 +63,7 @@ pub fn reading(weights: &[u32], marks: &mut [u8], counts: &mut [u64], k: usize, 
 
 // Removes the reading at boundary k and zeroes its count.
 pub fn withdraw(weights: &[u32], marks: &mut [u8], counts: &mut [u64], k: usize) -> Answer
-    ensures { λ r. ⌜ WithdrawMet (accountIn (weights .entry) (marks .entry) (counts .entry)) k r (accountIn (weights .exit) (marks .exit) (counts .exit)) ⌝ }
+    ensures { λ r. ⌜ WithdrawMet (accountIn (weights .entry) (marks .entry) (counts .entry)) k (number r) (accountIn (weights .exit) (marks .exit) (counts .exit)) ⌝ }
 {
     let answer = withdraw_answer(weights, &marks[..], &counts[..], k);
     if number_of(answer) == 0 {
@@ -76,7 +76,7 @@ pub fn withdraw(weights: &[u32], marks: &mut [u8], counts: &mut [u64], k: usize)
 
 // Sets a cut at boundary k.
 pub fn cut(weights: &[u32], marks: &mut [u8], counts: &[u64], k: usize) -> Answer
-    ensures { λ r. ⌜ CutMet (accountIn (weights .entry) (marks .entry) (counts .entry)) k r (accountIn (weights .exit) (marks .exit) (counts .exit)) ⌝ }
+    ensures { λ r. ⌜ CutMet (accountIn (weights .entry) (marks .entry) (counts .entry)) k (number r) (accountIn (weights .exit) (marks .exit) (counts .exit)) ⌝ }
 {
     let answer = cut_answer(weights, &marks[..], counts, k);
     if number_of(answer) == 0 {
@@ -88,7 +88,7 @@ pub fn cut(weights: &[u32], marks: &mut [u8], counts: &[u64], k: usize) -> Answe
 
 // Removes the cut at boundary k.
 pub fn uncut(weights: &[u32], marks: &mut [u8], counts: &[u64], k: usize) -> Answer
-    ensures { λ r. ⌜ UncutMet (accountIn (weights .entry) (marks .entry) (counts .entry)) k r (accountIn (weights .exit) (marks .exit) (counts .exit)) ⌝ }
+    ensures { λ r. ⌜ UncutMet (accountIn (weights .entry) (marks .entry) (counts .entry)) k (number r) (accountIn (weights .exit) (marks .exit) (counts .exit)) ⌝ }
 {
     let answer = uncut_answer(weights, &marks[..], counts, k);
     if number_of(answer) == 0 {

@@ -1,10 +1,10 @@
--- What the program calls (Case file), "reads a case file from standard input"; what `print_case` calls is in printing.
+-- What the program calls (Case file), "reads a file from standard input"; what `print_case` calls is in printing.
 use Prim.Native.Nat.{_+_}
 use mathlib.Core.Path.{_≡_}
 use mathlib.Core.List.{[], _∷_}
 use mir.Syntax.{Fn}
 use Rattle.profile.specs.Limits.{spanMost}
-use Rattle.code.specs.Trace.{trace, calls, returns, other}
+use Rattle.code.specs.Trace.{trace, calls, returns, none}
 use Rattle.code.specs.Files.{standardInput, array}
 
 -- one case, from standard input, on three arrays of its own (proofs/main, `prints-one-case`)
@@ -12,4 +12,4 @@ abbrev pub PrintsOneCase : Fn → Type 0
 PrintsOneCase f =
     trace f ≡
     calls "printing::print_case" (standardInput ∷ array 1 spanMost ∷ array 2 (spanMost + 1) ∷ array 3 (spanMost + 1) ∷ [])
-    (returns other)
+    (returns none)

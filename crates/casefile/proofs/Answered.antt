@@ -8,7 +8,6 @@ use lib.Dec.{eqb}
 use lib.ListN.{length, replicate, length-replicate}
 use Rattle.profile.specs.Limits.{spanMost}
 use Rattle.account.specs.Account.{Account, account}
-use Rattle.casefile.specs.declared.CaseAnswer.the-variants.{Days, Refused}
 use Rattle.casefile.specs.declared.sections.SectionEnd.{SectionEnd}
 use Rattle.casefile.specs.Case.{daysOf, accountOf}
 use Rattle.casefile.specs.Faults.{Fault, noFault, faultOf}
@@ -35,7 +34,7 @@ fit : (a : Account) → Long a → unfitSlices a ≡ false
 fit a l = simp (eq-eqb (length (a .weights)) spanMost (l .weights), eq-eqb (length (a .marks)) (spanMost + 1) (l .marks), eq-eqb (length (a .counts)) (spanMost + 1) (l .counts))
 
 -- 3 at 0, nothing touched
-pub unfit-met : (s : List ℕ) (lent : Account) → unfitSlices lent ≡ true → ReadMet s lent (Refused 3 0) lent s
+pub unfit-met : (s : List ℕ) (lent : Account) → unfitSlices lent ≡ true → ReadMet s lent 3 0 0 lent s
 unfit-met s lent u = record { answers = rw u refl; places = rw u refl; gives = rw u refl; writes = rw u refl; stays = refl }
 
 -- slices that were cleared
@@ -75,7 +74,7 @@ module _ {s : List ℕ} {lent filled : Account} {p : SectionEnd} (l : Long lent)
   judged : verdict s lent ≡ told (p .number) (p .place)
   judged = rw (fit lent l) found
 
-  pub refused-met : (p .number ≡ 0 → ⊥) → {after : Account} → after ≡ allZero filled → Long filled → ReadMet s lent (Refused (p .number) (p .place)) after s
+  pub refused-met : (p .number ≡ 0 → ⊥) → {after : Account} → after ≡ allZero filled → Long filled → ReadMet s lent (p .number) (p .place) 0 after s
   refused-met h {after} e k =
       let n = ne-eqb (p .number) 0 h in
       record {
@@ -86,7 +85,7 @@ module _ {s : List ℕ} {lent filled : Account} {p : SectionEnd} (l : Long lent)
         stays = refl;
       }
 
-  pub days-met : p .number ≡ 0 → ReadMet s lent (Days (p .days)) filled s
+  pub days-met : p .number ≡ 0 → ReadMet s lent 0 0 (p .days) filled s
   days-met z =
       let e = clean (f .reached) z in
       let v : verdict s lent ≡ noFault = rw (fit lent l) e in

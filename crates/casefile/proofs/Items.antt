@@ -13,23 +13,19 @@ use native.Mathlib.Numerals.{add-one}
 use native.Mathlib.Nat.{le-refl}
 use Rattle.account.specs.Below.{somewhere}
 use Rattle.casefile.specs.Case.{daysOf, readingOffset, readingBoundary, readingCount, emptyCase, withReadings}
-use Rattle.casefile.specs.Faults.{noFault, firstFault, failsToRise, readingFault}
+use Rattle.casefile.specs.Faults.{Fault, noFault, firstFault, failsToRise, readingFault}
 use Rattle.casefile.specs.Reader.{full}
 use Rattle.casefile.specs.declared.readings.Reading.{Reading}
-use Rattle.casefile.specs.Sections.{told, countFault, itemFault, CountedMet, ItemMet}
+use Rattle.casefile.specs.Sections.{told, ReadingTold, itemFault}
 use Rattle.casefile.proofs.Faults.{first-more, passes}
 use Rattle.casefile.proofs.Kept.{filled-set, readings-kept, uncut}
 
 pub stored : {number place : ℕ} {r : Reading} → 0 < number → r ≡ record { number = number; place = place; boundary = 0; count = 0 } → r .number ≡ 0 → ⊥
 stored l e z = omega (arith, ap (λ (q : Reading). q .number) e)
 
-pub item-stops : {s : List ℕ} {at low n first last number place : ℕ} {r : Reading} → 0 < number → r ≡ record { number = number; place = place; boundary = 0; count = 0 }
-    → told number place ≡ itemFault s at low n first last → ItemMet s at low n first last r
-item-stops l e t = record { tells = rw e t; boundary-is = λ z. absurd (stored l e z); count-is = λ z. absurd (stored l e z) }
-
-pub counted-stops : {s : List ℕ} {at boundary first last number place : ℕ} {r : Reading} → 0 < number → r ≡ record { number = number; place = place; boundary = 0; count = 0 }
-    → told number place ≡ countFault s at first last → CountedMet s at boundary first last r
-counted-stops l e t = record { tells = rw e t; boundary-is = λ z. absurd (stored l e z); count-is = λ z. absurd (stored l e z) }
+pub reading-stops : {f : Fault} {boundary count number place : ℕ} {r : Reading} → 0 < number → r ≡ record { number = number; place = place; boundary = 0; count = 0 }
+    → told number place ≡ f → ReadingTold f boundary count r
+reading-stops l e t = record { tells = rw e t; boundary-is = λ z. absurd (stored l e z); count-is = λ z. absurd (stored l e z) }
 
 -- the least boundary that rises, and the count of the reading before; at the first reading 0, and its own count
 abbrev pub above : (ℕ → ℕ) → ℕ → ℕ

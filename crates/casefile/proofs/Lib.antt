@@ -1,4 +1,4 @@
--- The laws that the proofs of crate casefile share, and its theorems.
+-- The laws that the proofs of crate casefile share, and its theorems (Case file).
 pub mod Numbers
 pub mod Faults
 pub mod Means

@@ -12,7 +12,7 @@ use Rattle.casefile.specs.Faults.{noFault, firstFault, failsToRise, read
 use Rattle.casefile.specs.Length.{fileMost, LongestFile}
 use Rattle.casefile.proofs.Faults.{none-before, no-fault}
 use Rattle.casefile.proofs.Items.{Sane, sane}
-use Rattle.casefile.proofs.Ordered.{climbs}
+use Rattle.casefile.proofs.Ordered.{risen}
 use Rattle.casefile.proofs.Sound.{SaneCut, sane-cut, clean-of}
 use Rattle.casefile.proofs.Chained.{span-none}
 use Rattle.casefile.proofs.LongestTaken.{taken}
@@ -20,7 +20,7 @@ use Rattle.casefile.proofs.LongestTaken.{taken}
 -- boundaries that rise are at least their numbers
 at-least : (boundary : ℕ → ℕ) (i : ℕ) → ((j : ℕ) → j < suc i → failsToRise boundary j ≡ false) → i ≤ boundary i
 at-least boundary zero up = omega arith
-at-least boundary (suc i) up = omega (arith, at-least boundary i (λ j l. up j (omega arith)), climbs boundary (suc i) (up (suc i) (omega arith)))
+at-least boundary (suc i) up = omega (arith, at-least boundary i (λ j l. up j (omega arith)), risen boundary (suc i) (up (suc i) (omega arith)))
 
 -- so at most n+1 readings, or cuts, have no fault
 pub few-readings : (s : List ℕ) (m : ℕ) → firstFault (readingFault s) m ≡ noFault → m ≤ daysOf s + 1

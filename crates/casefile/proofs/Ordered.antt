@@ -2,7 +2,7 @@
 -- faults ask. Assumes nothing.
 use Prim.Native.Nat.{ℕ, zero, suc, _+_, _-_, _≤_, _<_}
 use mathlib.Core.Path.{_≡_, refl, sym, _∙_, ap}
-use mathlib.Core.Bool.{Bool, true, false, cond, _&&_}
+use mathlib.Core.Bool.{Bool, true, false, cond}
 use mathlib.Core.List.{List}
 use native.Mathlib.Omega.{arith}
 use native.Mathlib.Nat.{le-refl}
@@ -13,15 +13,15 @@ use Rattle.profile.specs.Rows.{row}
 use Rattle.account.specs.Below.{somewhere}
 use Rattle.account.specs.Stands.{Stands, Readings, withReading, lastLessFirst}
 use Rattle.account.specs.Account.{energyMost}
-use Rattle.account.specs.Refusals.{outOfOrder, tooMuch, readingRows}
+use Rattle.account.specs.Refusals.{belowEarlier, aboveLater, outOfOrder, tooMuch, readingRows}
 use Rattle.account.proofs.Below.{clash, refuted, both, none-is, some-at, first-is, last-is}
 use Rattle.casefile.specs.Case.{daysOf, readingBoundary, readingCount}
 use Rattle.casefile.specs.Faults.{failsToRise}
 use Rattle.casefile.proofs.Items.{above, before, rises, falling}
 
 -- boundaries rise
-pub climbs : (boundary : ℕ → ℕ) (i : ℕ) → failsToRise boundary i ≡ false → above boundary i ≤ boundary i
-climbs boundary i e = ltb-false (boundary i) (above boundary i) (rises boundary i ∙ e)
+pub risen : (boundary : ℕ → ℕ) (i : ℕ) → failsToRise boundary i ≡ false → above boundary i ≤ boundary i
+risen boundary i e = ltb-false (boundary i) (above boundary i) (rises boundary i ∙ e)
 
 -- the first i readings of a file, as they stand
 pub record Orderly (s : List ℕ) (i : ℕ) (r : Readings) : Type 0 where
@@ -45,7 +45,7 @@ highest s (suc i) r o l =
 -- one more reading that rises
 module _ {s : List ℕ} {i : ℕ} (st : Stands) (o : Orderly s i (st .readings)) (rising : failsToRise (readingBoundary s) i ≡ false) where
   up : above (readingBoundary s) i ≤ readingBoundary s i
-  up = climbs (readingBoundary s) i rising
+  up = risen (readingBoundary s) i rising
 
   abbrev one-more : Readings
   one-more = withReading (st .readings) (readingBoundary s i) (readingCount s i)
@@ -89,13 +89,13 @@ module _ {s : List ℕ} {i : ℕ} (st : Stands) (o : Orderly s i (st .readings))
   unfolding outOfOrder
   in-order l = rw (none-is _ (suc (daysOf s)) (λ j h. earlier j), none-is _ (suc (daysOf s)) (λ j h. later j)) refl
     where
-      earlier : (j : ℕ) → (ltb j (readingBoundary s i) && (st .readings .at j && ltb (readingCount s i) (st .readings .count j))) ≡ false
+      earlier : (j : ℕ) → belowEarlier (st .readings) (readingBoundary s i) (readingCount s i) j ≡ false
       earlier j = refuted _ λ h.
           let p = both (ltb j (readingBoundary s i)) _ h .1 in
           let q = both (st .readings .at j) _ p in
           omega (arith, ltb-true (readingCount s i) (st .readings .count j) (q .1), o .most j (q .0), l)
 
-      later : (j : ℕ) → (ltb (readingBoundary s i) j && (st .readings .at j && ltb (st .readings .count j) (readingCount s i))) ≡ false
+      later : (j : ℕ) → aboveLater (st .readings) (readingBoundary s i) (readingCount s i) j ≡ false
       later j = refuted _ λ h.
           let p = both (ltb (readingBoundary s i) j) _ h in
           clash (both (st .readings .at j) _ (p .1) .0) (free j (omega (arith, ltb-true (readingBoundary s i) j (p .0))))
@@ -105,8 +105,7 @@ module _ {s : List ℕ} {i : ℕ} (st : Stands) (o : Orderly s i (st .readings))
   not-in-order inside l =
       let (j, at, above-it) = highest s i (st .readings) o l in
       let earlier = o .below j at in
-      let below : (ℕ → Bool) = λ m. ltb m (readingBoundary s i) && (st .readings .at m && ltb (readingCount s i) (st .readings .count m)) in
-      rw (some-at below (suc (daysOf s)) j (omega (arith, up)) (simp (lt-ltb j (readingBoundary s i) (omega (arith, up)), at, lt-ltb (readingCount s i) (st .readings .count j) above-it))) refl
+      rw (some-at (belowEarlier (st .readings) (readingBoundary s i) (readingCount s i)) (suc (daysOf s)) j (omega (arith, up)) (simp (lt-ltb j (readingBoundary s i) (omega (arith, up)), at, lt-ltb (readingCount s i) (st .readings .count j) above-it))) refl
 
   -- 9: it is the last then, and the first is reading 0
   last-less-first : readingBoundary s i ≤ daysOf s → before (readingCount s) i ≤ readingCount s i

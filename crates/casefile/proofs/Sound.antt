@@ -28,7 +28,7 @@ use Rattle.account.proofs.Keeps.{Holds, open-keeps, reading-keeps, cut-keeps}
 use Rattle.casefile.specs.Case.{profileByte, weekdayByte, meansLength, meansOf, daysOf, readingsOffset, readingsLength, readingOffset, readingBoundary, readingCount, cutsOffset, cutsLength, cutOffset, cutBoundary, endOf, emptyCase, withReadings, withCuts, accountOf}
 use Rattle.casefile.specs.Faults.{noFault, fault, firstFault, failsToRise, readingFault, cutFault, faultOf, headFault, meansFault, readingsFault, cutsFault}
 use Rattle.casefile.proofs.Items.{above, before, Sane, sane}
-use Rattle.casefile.proofs.Ordered.{climbs, Orderly, more, reading-rows}
+use Rattle.casefile.proofs.Ordered.{risen, Orderly, more, reading-rows}
 use Rattle.casefile.specs.Sections.{spanFault, beforeCutsFault}
 use Rattle.casefile.specs.Reader.{faultNumber, CaseSound, CaseTaken}
 use Rattle.casefile.proofs.Faults.{number-of, number-before, none-both, no-fault, passes, none-before, first-few}
@@ -143,7 +143,7 @@ cut-number : (s : List ℕ) (i : ℕ) → Cut s i → cutOffset s i + 2 ≤ leng
 cut-number s i p long rising =
     let a = withCuts s i in
     let b = cutBoundary s i in
-    let free = refuted (shown a .cut b) (λ t. omega (arith, p .below b t, climbs (cutBoundary s) i rising)) in
+    let free = refuted (shown a .cut b) (λ t. omega (arith, p .below b t, risen (cutBoundary s) i rising)) in
     rw (le-ltb (length s) (cutOffset s i + 2) long, rising, days-kept s a (cuts-kept s i), free) (number-of (ltb (daysOf s) b) 6 _)
 
 pub cuts-sound : (s : List ℕ) → Read s (readingsLength s) → (i : ℕ) → firstFault (cutFault s) i ≡ noFault → Cut s i
@@ -154,7 +154,7 @@ cuts-sound s r (suc i) f =
     let p = cuts-sound s r i (n .0) in
     let c = sane-cut s i (n .1) in
     let h = cut-keeps (withCuts s i) (p .checked) (cutBoundary s i) (sym (cut-number s i p (c .long) (c .rising)) ∙ ap faultNumber (n .1)) in
-    record { checked = h .checked; below = λ j t. next j (climbs (cutBoundary s) i (c .rising)) (p .below j) (eqb j (cutBoundary s i)) refl (ap (λ (st : Stands). st .cut j) (sym (h .shows)) ∙ t) }
+    record { checked = h .checked; below = λ j t. next j (risen (cutBoundary s) i (c .rising)) (p .below j) (eqb j (cutBoundary s i)) refl (ap (λ (st : Stands). st .cut j) (sym (h .shows)) ∙ t) }
   where
     next : (j : ℕ) → above (cutBoundary s) i ≤ cutBoundary s i → (shown (withCuts s i) .cut j ≡ true → j < above (cutBoundary s) i) → (t : Bool) → eqb j (cutBoundary s i) ≡ t
         → cond t true (shown (withCuts s i) .cut j) ≡ true → j < cutBoundary s i + 1

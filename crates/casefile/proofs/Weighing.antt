@@ -16,7 +16,6 @@ use Rattle.profile.specs.Rows.{filled}
 use Rattle.weights.specs.Means.{firstOut, someOut}
 use Rattle.weights.specs.Weights.{weightsOf, WeightsMet}
 use Rattle.weights.proofs.Span.{weights-length}
-use Rattle.weights.specs.declared.WeightsAnswer.{WeightsAnswer}
 use Rattle.casefile.specs.declared.sections.SectionEnd.{SectionEnd}
 use Rattle.casefile.specs.Bytes.{byte, signed16}
 use Rattle.casefile.specs.Case.{profileByte, weekdayByte, meansLength, meanOffset, firstMeans, meansOf, daysOf}
@@ -106,8 +105,8 @@ drop-zeros k n = ext-getD 0 (drop k (replicate n 0)) (replicate (n - k) 0) (simp
     rw (getD-drop, getD-replicate {A = ℕ} n (k + i) 0 0 (omega arith), getD-replicate {A = ℕ} (n - k) i 0 0 h)
 
 -- the weights call does what it is asked, and leaves the rest zero
-pub weighs : {profile weekday days : ℕ} {means meansAfter : List ℤ} {lent after : List ℕ} {answer : WeightsAnswer} → Weighable profile weekday means days lent
-    → WeightsMet profile weekday (take (days + 3) means) (take days lent) answer after meansAfter → after ++ drop days lent ≡ filled spanMost (weightsOf profile weekday (take (days + 3) means))
+pub weighs : {profile weekday days : ℕ} {means meansAfter : List ℤ} {lent after : List ℕ} {answered placed : ℕ} → Weighable profile weekday means days lent
+    → WeightsMet profile weekday (take (days + 3) means) (take days lent) answered placed after meansAfter → after ++ drop days lent ≡ filled spanMost (weightsOf profile weekday (take (days + 3) means))
 weighs {profile} {weekday} {days} {means} {lent} {after} w m =
     let enough : length (take (days + 3) means) ≡ days + 3 = length-take-le (days + 3) means (w .enough) in
     let room : length (take days lent) ≡ days = length-take-le days lent (omega (arith, w .clear .long)) in

@@ -60,10 +60,10 @@ slicesAfter s lent =
     (ifDone (faultNumber (faultOf s)) (full (accountOf s))
     (allZero lent))
 
-pub record ReadMet (file : List ℕ) (lent : Account) (answer : CaseAnswer) (after : Account) (kept : List ℕ) : Type 0 where
-  pub answers : number answer ≡ faultNumber (verdict file lent)
-  pub places : place answer ≡ faultPlace (verdict file lent)
-  pub gives : days answer ≡ ifDone (faultNumber (verdict file lent)) (daysOf file) 0
+pub record ReadMet (file : List ℕ) (lent : Account) (answered placed given : ℕ) (after : Account) (kept : List ℕ) : Type 0 where
+  pub answers : answered ≡ faultNumber (verdict file lent)
+  pub places : placed ≡ faultPlace (verdict file lent)
+  pub gives : given ≡ ifDone (faultNumber (verdict file lent)) (daysOf file) 0
   pub writes : after ≡ slicesAfter file lent
   pub stays : kept ≡ file
 

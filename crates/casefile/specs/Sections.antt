@@ -75,17 +75,19 @@ itemFault s at low n first last =
     fault (ltb n (number16 s at)) 6 at before
     countFault s at first last
 
--- the reading at an offset with this boundary, or the fault of its count
-pub record CountedMet (s : List ℕ) (at boundary first last : ℕ) (r : Reading) : Type 0 where
-  pub tells : told (r .number) (r .place) ≡ countFault s at first last
+-- a fault, or where there is none a reading with this boundary and count
+pub record ReadingTold (f : Fault) (boundary count : ℕ) (r : Reading) : Type 0 where
+  pub tells : told (r .number) (r .place) ≡ f
   pub boundary-is : r .number ≡ 0 → r .boundary ≡ boundary
-  pub count-is : r .number ≡ 0 → r .count ≡ number64 s (at + 2)
+  pub count-is : r .number ≡ 0 → r .count ≡ count
+
+-- the reading at an offset with this boundary, or the fault of its count
+abbrev pub CountedMet : (s : List ℕ) (at boundary first last : ℕ) → Reading → Type 0
+CountedMet s at boundary first last = ReadingTold (countFault s at first last) boundary (number64 s (at + 2))
 
 -- the reading at an offset, or its fault
-pub record ItemMet (s : List ℕ) (at low n first last : ℕ) (r : Reading) : Type 0 where
-  pub tells : told (r .number) (r .place) ≡ itemFault s at low n first last
-  pub boundary-is : r .number ≡ 0 → r .boundary ≡ number16 s at
-  pub count-is : r .number ≡ 0 → r .count ≡ number64 s (at + 2)
+abbrev pub ItemMet : (s : List ℕ) (at low n first last : ℕ) → Reading → Type 0
+ItemMet s at low n first last = ReadingTold (itemFault s at low n first last) (number16 s at) (number64 s (at + 2))
 
 -- the readings from an offset on, asked for slices that hold the empty account
 pub record ReadingsAsked (s : List ℕ) (at count n : ℕ) (marks counts : List ℕ) : Type 0 where

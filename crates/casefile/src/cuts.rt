@@ -1,14 +1,14 @@
 // The cuts of a case file, into the marks; and the end of the file (Case file).
+use crate::bytes::number16;
+use crate::sections::SectionEnd;
+use crate::sections::passed;
+use crate::sections::refused;
 ghost use mathlib.Core.Path.{_≡_};
 ghost use mathlib.Core.Bool.{true};
 ghost use Rattle.account.specs.Account.{marksReading, markOf};
 ghost use Rattle.casefile.specs.Case.{cutsLength};
 ghost use Rattle.casefile.specs.Faults.{firstFault, cutFault, faultOf};
 ghost use Rattle.casefile.specs.Sections.{CutsAsked, CutsFrom, CutsMet};
-use crate::bytes::number16;
-use crate::sections::SectionEnd;
-use crate::sections::passed;
-use crate::sections::refused;
 
 // The mark with a cut: 1, or 3 where a reading is.
 fn with_cut(mark: u8) -> u8

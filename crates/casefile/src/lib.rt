@@ -11,7 +11,7 @@ use clear::clear;
 use profile::Profile;
 use reader::fill;
 ghost use Rattle.account.specs.Account.{accountIn};
-ghost use Rattle.casefile.specs.Reader.{ReadMet};
+ghost use Rattle.casefile.specs.Reader.{number, place, days, ReadMet};
 
 // What the reader answers: n, or a row of the table with its place.
 pub enum CaseAnswer {
@@ -26,7 +26,7 @@ pub fn read_case(
     marks: &mut [u8],
     counts: &mut [u64],
 ) -> CaseAnswer
-    ensures { λ r. ⌜ ReadMet (now (file .entry)) (accountIn (weights .entry) (marks .entry) (counts .entry)) r (accountIn (weights .exit) (marks .exit) (counts .exit)) (now (file .exit)) ⌝ }
+    ensures { λ r. ⌜ ReadMet (now (file .entry)) (accountIn (weights .entry) (marks .entry) (counts .entry)) (number r) (place r) (days r) (accountIn (weights .exit) (marks .exit) (counts .exit)) (now (file .exit)) ⌝ }
 {
     if weights.len() != Profile::SPAN {
         return CaseAnswer::Refused(3, 0);

@@ -1,13 +1,13 @@
 // The reader (Case file): it holds the file and its own position. Thin calls take it apart for the sections' functions.
+use crate::cuts::cuts_at;
+use crate::readings::readings_at;
+use crate::sections::SectionEnd;
+use crate::span::span_at;
 ghost use mathlib.Core.Path.{_≡_};
 ghost use Rattle.account.specs.Account.{accountIn};
 ghost use Rattle.profile.specs.Limits.{spanMost};
 ghost use Rattle.casefile.specs.Faults.{faultOf};
 ghost use Rattle.casefile.specs.Sections.{Clear, AllClear, SpanMet, ReadingsFrom, ReadingsMet, CutsFrom, CutsMet, FillMet, beforeCutsFault};
-use crate::cuts::cuts_at;
-use crate::readings::readings_at;
-use crate::sections::SectionEnd;
-use crate::span::span_at;
 
 pub struct Reader<'a> {
     pub file: &'a [u8],

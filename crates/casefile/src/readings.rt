@@ -1,4 +1,10 @@
 // The readings of a case file, into marks and counts (Case file).
+use crate::bytes::number16;
+use crate::bytes::number64;
+use crate::sections::SectionEnd;
+use crate::sections::passed;
+use crate::sections::refused;
+use account::ENERGY_MOST;
 ghost use mathlib.Core.Path.{_≡_};
 ghost use Prim.Native.Nat.{_+_, _≤_, _<_, _^_};
 ghost use lib.ListN.{length};
@@ -6,12 +12,6 @@ ghost use Rattle.casefile.specs.Bytes.{number64};
 ghost use Rattle.casefile.specs.Case.{readingsLength};
 ghost use Rattle.casefile.specs.Faults.{firstFault, readingFault};
 ghost use Rattle.casefile.specs.Sections.{ItemMet, CountedMet, ReadingsAsked, ReadingsFrom, ReadingsMet, beforeCutsFault};
-use crate::bytes::number16;
-use crate::bytes::number64;
-use crate::sections::SectionEnd;
-use crate::sections::passed;
-use crate::sections::refused;
-use account::ENERGY_MOST;
 
 // One reading of the file, or its fault.
 pub(crate) struct Reading {

@@ -1,4 +1,10 @@
 // The first sections of a case file: profile, weekday and means, and the weights that they give (Case file).
+use crate::bytes::number16;
+use crate::bytes::signed;
+use crate::sections::SectionEnd;
+use crate::sections::passed;
+use crate::sections::refused;
+use profile::Profile;
 ghost use mathlib.Core.Path.{_≡_};
 ghost use Prim.Native.Nat.{_+_, _≤_};
 ghost use lib.ListN.{length, take};
@@ -8,12 +14,6 @@ ghost use Rattle.profile.specs.Rows.{filled};
 ghost use Rattle.casefile.specs.Case.{meansLength, daysOf};
 ghost use Rattle.casefile.specs.Sections.{Reached, MeansMet, SpanMet, Clear, Weighable};
 ghost use Rattle.casefile.specs.Faults.{headFault};
-use crate::bytes::number16;
-use crate::bytes::signed;
-use crate::sections::SectionEnd;
-use crate::sections::passed;
-use crate::sections::refused;
-use profile::Profile;
 
 // Profile, weekday and the count of means.
 fn head(file: &[u8]) -> SectionEnd

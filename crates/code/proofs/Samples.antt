@@ -1,4 +1,4 @@
--- The samples, by computation. Assumes nothing.
+-- The samples (Case file), by computation. Assumes nothing.
 use mathlib.Core.Path.{refl}
 use Rattle.code.specs.Samples.{Samples}
 
@@ -20,4 +20,12 @@ samples =
       outer-turn = refl;
       inner-turn = refl;
       continued = refl;
+      part-set = refl;
+      pointed-set = refl;
+      matched = refl;
+      not-told = refl;
+      made = refl;
+      variant-lent = refl;
+      stored-in-turns = refl;
+      unreturned = refl;
     }

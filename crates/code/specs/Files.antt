@@ -1,9 +1,9 @@
 -- How a function's code reads a file and hands on what was read (Case file); the numbers by which the system knows the open files.
 use Prim.Native.Nat.{ℕ}
 use mathlib.Core.Path.{_≡_}
-use mathlib.Core.List.{[], _∷_}
+use mathlib.Core.List.{List, [], _∷_}
 use mir.Syntax.{Name, Fn}
-use Rattle.code.specs.Trace.{Value, number, parameter, answer, address, content, field, pair, filled, calls, returns, trace}
+use Rattle.code.specs.Trace.{Value, number, parameter, answer, address, content, field, none, fields, repeated, calls, returns, trace}
 
 abbrev pub standardInput : Value
 standardInput = number 0
@@ -11,13 +11,22 @@ standardInput = number 0
 abbrev pub standardOutput : Value
 standardOutput = number 1
 
--- a slice of n elements
+-- a struct of two fields
+abbrev pub pair : Value → Value → Value
+pair a b = fields a (fields b none)
+
+-- an array of these bytes
+abbrev pub bytes : List ℕ → Value
+bytes [] = none
+bytes (b ∷ bs) = fields (number b) (bytes bs)
+
+-- a slice of n elements: its start and its length
 abbrev pub slice : Value → ℕ → Value
 slice start n = pair start (number n)
 
 -- the address of a local of the function's own, an array of n zeros, and the whole of it as a slice
 abbrev pub array : ℕ → ℕ → Value
-array x n = address x (filled (number 0) n)
+array x n = address x (repeated (number 0) n)
 
 abbrev pub buffer : ℕ → ℕ → Value
 buffer x n = slice (array x n) n

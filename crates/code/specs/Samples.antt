@@ -1,10 +1,10 @@
--- What is read off fifteen short pieces of code (Case file), so that `trace` can be seen to tell them apart (proofs/Samples, `samples`).
+-- What is read off short pieces of code (Case file), so that `trace` can be seen to tell them apart (proofs/Samples, `samples`).
 use Prim.Native.Nat.{ℕ}
 use mathlib.Core.Path.{_≡_}
 use mathlib.Core.List.{List, [], _∷_}
-use mir.Syntax.{Body, Place, Opd, w64, place, copy, int, rvOpd, addrOf, aggregate, deref, tyUnit, skip, seq, assign, block, loop, cond, exit, return, call}
+use mir.Syntax.{Body, Place, Opd, w64, place, copy, int, intNeg, opdTrue, rvOpd, addrOf, aggregate, bitNot, deref, variant, tyUnit, skip, seq, assign, block, loop, cond, switch, noDefault, exit, return, call}
 use mir.Syntax as Mir
-use Rattle.code.specs.Trace.{Trace, calls, returns, either, turns, again, unfollowed, parameter, number, answer, address, content, varies, other, bodyTrace}
+use Rattle.code.specs.Trace.{Trace, calls, returns, either, turns, again, unfollowed, parameter, number, answer, address, content, varies, none, fields, op1, other, bodyTrace}
 use Rattle.code.specs.Files.{lentOn}
 
 -- a local, and what it holds
@@ -81,3 +81,25 @@ pub record Samples : Type 0 where
   pub continued :
       traced (loop (seq (cond (held 1) (exit 0) skip) (call "f" [] (local 2))) ∷ []) ≡
       turns 0 [] (either (parameter 1) (again 0 []) (calls "f" [] (again 0 [])))
+  -- x.0 = 3; *p = 3; match p { }
+  pub part-set : traced (assign (place 2 (Mir.field 0 ∷ [])) (rvOpd (int w64 3)) ∷ []) ≡ unfollowed
+  pub pointed-set : traced (assign (place 1 (deref tyUnit ∷ [])) (rvOpd (int w64 3)) ∷ []) ≡ unfollowed
+  pub matched : traced (switch (held 1) noDefault ∷ []) ≡ unfollowed
+  -- f(-1, *p, p as an enum's variant)
+  pub not-told :
+      traced (call "f" (intNeg w64 1 ∷ copy (place 1 (deref tyUnit ∷ [])) ∷ copy (place 1 (variant 0 ∷ [])) ∷ []) (local 0) ∷ []) ≡
+      calls "f" (other ∷ other ∷ other ∷ []) (returns (answer 0))
+  -- f(!p, S { p, true, p }, &(*p).1)
+  pub made :
+      traced (assign (local 2) (Mir.op1 bitNot (held 1)) ∷ assign (local 3) (aggregate (held 1 ∷ opdTrue ∷ held 1 ∷ [])) ∷ assign (local 4) (addrOf (place 1 (deref tyUnit ∷ Mir.field 1 ∷ []))) ∷ call "f" (held 2 ∷ held 3 ∷ held 4 ∷ []) (local 0) ∷ []) ≡
+      calls "f" (op1 bitNot (parameter 1) ∷ fields (parameter 1) (fields (number 1) (fields (parameter 1) none)) ∷ other ∷ []) (returns (answer 0))
+  -- f(&x as an enum's variant); return x
+  pub variant-lent :
+      traced (assign (local 3) (addrOf (place 2 (variant 0 ∷ []))) ∷ call "f" (held 3 ∷ []) (local 4) ∷ assign (local 0) (rvOpd (held 2)) ∷ []) ≡
+      calls "f" (other ∷ []) (returns (content 2 1))
+  -- loop { f(x, y, z); { x = 3 }; if p { y = 3 }; loop { z = 3; break } }
+  pub stored-in-turns :
+      traced (loop (seq (call "f" (held 2 ∷ held 3 ∷ held 4 ∷ []) (local 5)) (seq (block (assign (local 2) (rvOpd (int w64 3)))) (seq (cond (held 1) (assign (local 3) (rvOpd (int w64 3))) skip) (loop (seq (assign (local 4) (rvOpd (int w64 3))) (exit 1)))))) ∷ []) ≡
+      turns 0 [] (calls "f" (varies 2 0 ∷ varies 3 0 ∷ varies 4 0 ∷ []) (either (parameter 1) (turns 2 [] (again 0 [])) (turns 2 [] (again 0 []))))
+  -- f(), and no return
+  pub unreturned : bodyTrace [] (call "f" [] (local 2)) ≡ calls "f" [] unfollowed

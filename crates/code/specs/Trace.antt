@@ -16,8 +16,9 @@ pub data Value : Type 0 where
   content : ℕ → ℕ → Value  -- of this local, whose address was taken, after so many of them
   varies : ℕ → ℕ → Value  -- what this local holds as a turn of this loop begins, which stores to it
   field : ℕ → Value → Value
-  pair : Value → Value → Value  -- a struct of two fields; a slice is its start and its length
-  filled : Value → ℕ → Value  -- an array of so many of these
+  none : Value  -- of a struct's or an array's fields, after the last
+  fields : Value → Value → Value  -- the next one, and those after it
+  repeated : Value → ℕ → Value  -- an array of so many of these
   op1 : Op1 → Value → Value
   op2 : Op2 → Value → Value → Value
   other : Value
@@ -38,13 +39,13 @@ pub data Local : Type 0 where
 abbrev pub Locals : Type 0
 Locals = ℕ → Local
 
-abbrev pub set : ℕ → Local → Locals → Locals
-set x l locals y = cond (eqb y x) l (locals y)
+abbrev pub put : Locals → ℕ → Local → Locals
+put locals x l y = cond (eqb y x) l (locals y)
 
 -- what local x holds after n calls and loops
-abbrev pub held : ℕ → ℕ → Local → Value
-held x n (has v) = v
-held x n lent = content x n
+abbrev pub valueOf : ℕ → ℕ → Local → Value
+valueOf x n (has v) = v
+valueOf x n lent = content x n
 
 -- what stands in a value where these steps lead
 abbrev pub within : List Step → Value → Value
@@ -62,28 +63,26 @@ pointer (Mir.variant k ∷ steps) v = other
 pointer (Mir.deref ty ∷ step ∷ steps) v = other
 
 abbrev pub operand : ℕ → Locals → Opd → Value
-operand n locals (Mir.copy (Mir.place x steps)) = within steps (held x n (locals x))
+operand n locals (Mir.copy (Mir.place x steps)) = within steps (valueOf x n (locals x))
 operand n locals (Mir.int width k) = number k
 operand n locals (Mir.intBig width k) = number k
 operand n locals (Mir.intNeg width k) = other
 operand n locals (Mir.float format k) = other
-operand n locals Mir.opdTrue = other
-operand n locals Mir.opdFalse = other
-operand n locals Mir.opdUnit = other
+operand n locals Mir.opdTrue = number 1
+operand n locals Mir.opdFalse = number 0
+operand n locals Mir.opdUnit = none
 operand n locals (Mir.ptrConst k) = other
 
 abbrev pub struct : List Value → Value
-struct (a ∷ b ∷ []) = pair a b
-struct [] = other
-struct (a ∷ []) = other
-struct (a ∷ b ∷ c ∷ vs) = other
+struct [] = none
+struct (v ∷ vs) = fields v (struct vs)
 
 abbrev pub computed : ℕ → Locals → Rv → Value
 computed n locals (Mir.rvOpd o) = operand n locals o
-computed n locals (Mir.addrOf (Mir.place x [])) = address x (held x n (locals x))
-computed n locals (Mir.addrOf (Mir.place x (step ∷ steps))) = pointer (step ∷ steps) (held x n (locals x))
+computed n locals (Mir.addrOf (Mir.place x [])) = address x (valueOf x n (locals x))
+computed n locals (Mir.addrOf (Mir.place x (step ∷ steps))) = pointer (step ∷ steps) (valueOf x n (locals x))
 computed n locals (Mir.aggregate os) = struct (map (operand n locals) os)
-computed n locals (Mir.repeat o k) = filled (operand n locals o) k
+computed n locals (Mir.repeat o k) = repeated (operand n locals o) k
 computed n locals (Mir.op1 f a) = op1 f (operand n locals a)
 computed n locals (Mir.op2 f a b) = op2 f (operand n locals a) (operand n locals b)
 
@@ -96,7 +95,7 @@ inside (Mir.deref ty ∷ steps) = false
 
 -- taking the address of a local, or of a part of it, lends the local
 abbrev pub lending : Rv → Locals → Locals
-lending (Mir.addrOf (Mir.place x steps)) locals = cond (inside steps) (set x lent locals) locals
+lending (Mir.addrOf (Mir.place x steps)) locals = cond (inside steps) (put locals x lent) locals
 lending (Mir.rvOpd o) locals = locals
 lending (Mir.aggregate os) locals = locals
 lending (Mir.repeat o k) locals = locals
@@ -109,7 +108,7 @@ unlessLent lent rest = unfollowed
 
 -- a value is stored, and the rest follows
 abbrev pub store : Place → Value → Locals → (Locals → Trace) → Trace
-store (Mir.place x []) v locals rest = unlessLent (locals x) (rest (set x (has v) locals))
+store (Mir.place x []) v locals rest = unlessLent (locals x) (rest (put locals x (has v)))
 store (Mir.place x (step ∷ steps)) v locals rest = unfollowed
 
 abbrev pub varying : ℕ → ℕ → Local → Local
@@ -118,8 +117,8 @@ varying n x lent = lent
 
 -- the locals as a turn of loop n with this code begins
 abbrev pub turning : ℕ → Body → Locals → Locals
-turning n (Mir.assign (Mir.place x steps) v) locals = lending v (set x (varying n x (locals x)) locals)
-turning n (Mir.call f os (Mir.place x steps)) locals = set x (varying n x (locals x)) locals
+turning n (Mir.assign (Mir.place x steps) v) locals = lending v (put locals x (varying n x (locals x)))
+turning n (Mir.call f os (Mir.place x steps)) locals = put locals x (varying n x (locals x))
 turning n (Mir.seq a b) locals = turning n b (turning n a locals)
 turning n (Mir.cond o a b) locals = turning n b (turning n a locals)
 turning n (Mir.block b) locals = turning n b locals
@@ -141,7 +140,7 @@ through rest exits (suc k) = exits k
 -- the locals whose values are shown before a loop and at the end of a turn
 module _ (shown : List ℕ) where
   abbrev pub values : ℕ → Locals → List Value
-  values n locals = map (λ x. held x n (locals x)) shown
+  values n locals = map (λ x. valueOf x n (locals x)) shown
 
   -- code after n calls and loops, with what follows on its end and on its exits
   abbrev pub run : Body → ℕ → Locals → Rest → (ℕ → Rest) → Trace
@@ -154,7 +153,7 @@ module _ (shown : List ℕ) where
   run (Mir.loop b) n locals rest exits =
       let next : Rest = λ m end. again n (values m end) in turns n (values n locals) (run b (suc n) (turning n b locals) next (through next exits))
   run (Mir.exit k) n locals rest exits = exits k n locals
-  run Mir.return n locals rest exits = returns (held 0 n (locals 0))
+  run Mir.return n locals rest exits = returns (valueOf 0 n (locals 0))
   run (Mir.switch o arms) n locals rest exits = unfollowed
 
   -- the parameters are the locals from 1 on; any other local is set before it is read

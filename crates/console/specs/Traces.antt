@@ -4,8 +4,8 @@ use mathlib.Core.Path.{_≡_}
 use mathlib.Core.List.{[], _∷_}
 use mir.Syntax.{Fn, unsigned, add, lt, bitNot}
 use Rattle.profile.specs.Limits.{spanMost}
-use Rattle.code.specs.Trace.{trace, traceShowing, calls, returns, either, turns, again, parameter, number, answer, varies, field, pair, op1, op2, other}
-use Rattle.code.specs.Files.{standardInput, standardOutput, buffer, lentOn, ReadsOnce, HandsOn}
+use Rattle.code.specs.Trace.{trace, traceShowing, calls, returns, either, turns, again, parameter, number, answer, varies, field, none, op1, op2}
+use Rattle.code.specs.Files.{standardInput, standardOutput, pair, buffer, lentOn, ReadsOnce, HandsOn}
 use Rattle.layout.specs.Accounts.{textMost}
 use Rattle.script.specs.Input.{scriptMost}
 
@@ -16,7 +16,7 @@ AnswersOneScript f =
     calls "console::input::read" (standardInput ∷ [])
     (calls "console::input::Input::answer"
     (answer 0 ∷ buffer 2 spanMost ∷ buffer 3 (spanMost + 1) ∷ buffer 4 (spanMost + 1) ∷ buffer 5 (textMost + 1_024) ∷ [])
-    (returns other))
+    (returns none))
 
 -- one byte more than a script can have (proofs/input/read, `reads-script`)
 abbrev pub ReadsScript : Fn → Type 0
@@ -56,7 +56,7 @@ abbrev pub Counts : Fn → Type 0
 Counts f = trace f ≡ returns (pair (parameter 1) (op1 bitNot (parameter 2)))
 
 abbrev pub CountsNothing : Fn → Type 0
-CountsNothing f = trace f ≡ returns (pair (number 0) other)
+CountsNothing f = trace f ≡ returns (pair (number 0) (number 0))
 
 abbrev pub TellsFailure : Fn → Type 0
 TellsFailure f = trace f ≡ returns (field 1 (parameter 1))

@@ -55,11 +55,11 @@ amountNumber v weight =
     (row (ltb valueMost v) 12  -- customer value above 10^12
     0)
 
-pub record CustomerMet (energy : ℕ) (w : List ℕ) (answer : CustomerAnswer) (after : List ℕ) : Type 0 where
-  pub answers : number answer ≡ customerNumber energy w
-  pub gives : value answer ≡ ifDone (customerNumber energy w) (customerValue energy w) 0
+pub record CustomerMet (energy : ℕ) (w : List ℕ) (answered given : ℕ) (after : List ℕ) : Type 0 where
+  pub answers : answered ≡ customerNumber energy w
+  pub gives : given ≡ ifDone (customerNumber energy w) (customerValue energy w) 0
   pub stays : after ≡ w
 
-pub record AmountMet (v weight : ℕ) (answer : CustomerAnswer) : Type 0 where
-  pub answers : number answer ≡ amountNumber v weight
-  pub gives : value answer ≡ ifDone (amountNumber v weight) (dailyAmount v weight) 0
+pub record AmountMet (v weight answered given : ℕ) : Type 0 where
+  pub answers : answered ≡ amountNumber v weight
+  pub gives : given ≡ ifDone (amountNumber v weight) (dailyAmount v weight) 0

@@ -1,12 +1,13 @@
 // Customer value and daily amount, on lent weights and single numbers (Customer value and daily amount, If a call declines).
+use account::ENERGY_MOST;
+use profile::Profile;
 ghost use mathlib.Core.Path.{_≡_};
 ghost use Prim.Native.Nat.{_≤_};
 ghost use lib.ListN.{length};
 ghost use Rattle.profile.specs.Limits.{spanMost};
 ghost use Rattle.profile.specs.Coefficients.{sumOf};
 ghost use Rattle.customer.specs.Customer.{CustomerMet, AmountMet};
-use account::ENERGY_MOST;
-use profile::Profile;
+ghost use Rattle.customer.specs.Customer as answers;
 
 // The largest customer value, in 0.1 Wh.
 const VALUE_MOST: u64 = 1_000_000_000_000;
@@ -39,7 +40,7 @@ fn sum_of(weights: &[u32]) -> u64
 
 // The customer value of this energy in Wh over these weights, in units of 0.1 Wh.
 pub fn customer_value(energy: u64, weights: &[u32]) -> CustomerAnswer
-    ensures { λ r. ⌜ CustomerMet energy (now (weights .entry)) r (now (weights .exit)) ⌝ }
+    ensures { λ r. ⌜ CustomerMet energy (now (weights .entry)) (answers.number r) (answers.value r) (now (weights .exit)) ⌝ }
 {
     let n = weights.len();
     if n == 0 {
@@ -63,7 +64,7 @@ pub fn customer_value(energy: u64, weights: &[u32]) -> CustomerAnswer
 
 // The Wh of a day with this weight for a customer with this value.
 pub fn daily_amount(value: u64, weight: u32) -> CustomerAnswer
-    ensures { λ r. ⌜ AmountMet value weight r ⌝ }
+    ensures { λ r. ⌜ AmountMet value weight (answers.number r) (answers.value r) ⌝ }
 {
     if weight < Profile::WEIGHT_LEAST {
         return CustomerAnswer::Unsound;

@@ -9,10 +9,18 @@ use returned::value_high;
 use returned::value_low;
 use returned::value_number;
 use returned::value_place;
+ghost use mathlib.Core.Path.{_≡_};
+ghost use Rattle.profile.specs.Answers.{ValueMet, WeightMet};
+ghost use Rattle.weights.specs.Temperature.{TemperatureMet};
+ghost use Rattle.weights.specs.Weights.{WeightsMet};
 ghost use Rattle.account.specs.Account.{accountIn};
+ghost use Rattle.account.specs.Calls.{OpenMet, ReadingMet, WithdrawMet, CutMet, UncutMet};
 ghost use Rattle.statement.specs.Parts.{outputsIn};
+ghost use Rattle.statement.specs.Call.{StatementMet};
+ghost use Rattle.customer.specs.Customer.{CustomerMet, AmountMet};
+ghost use Rattle.casefile.specs.Reader.{ReadMet};
 ghost use Rattle.layout.specs.Text.{LaidOut, TextMet, statementText, refusalText};
-ghost use Rattle.ffi.specs.Calls.{TemperatureReturned, ChooseReturned, ValueReturned, WeightReturned, WeightsReturned, OpenReturned, ReadingReturned, WithdrawReturned, CutReturned, UncutReturned, StatementReturned, CustomerReturned, AmountReturned, ReadReturned};
+ghost use Rattle.ffi.specs.Calls.{ChooseReturned};
 
 // The table's number (0 is done), the place or index that goes with it, and the value; 0 where there is none.
 #[repr(C)]
@@ -49,7 +57,7 @@ pub struct Chosen {
 // The allocation temperature of four daily means, today's first.
 #[no_mangle]
 pub extern "C" fn arvadush_temperature(a: i16, b: i16, c: i16, d: i16) -> Temperature
-    ensures { λ r. ⌜ TemperatureReturned a b c d r ⌝ }
+    ensures { λ r. ⌜ TemperatureMet a b c d (r .number) (r .place) (r .value) ⌝ }
 {
     let answer = weights::temperature(a, b, c, d);
     Temperature {
@@ -87,7 +95,7 @@ pub extern "C" fn arvadush_choose<'a>(measured: &'a [i16], forecast: &'a [i16], 
 // The profile value at a temperature, low and high.
 #[no_mangle]
 pub extern "C" fn arvadush_value(profile: u8, t: i16) -> Values
-    ensures { λ r. ⌜ ValueReturned profile t r ⌝ }
+    ensures { λ r. ⌜ ValueMet profile t (r .number) (r .place) (r .low) (r .high) ⌝ }
 {
     let answer = profile::value(profile, t);
     Values {
@@ -101,7 +109,7 @@ pub extern "C" fn arvadush_value(profile: u8, t: i16) -> Values
 // The weight of one day.
 #[no_mangle]
 pub extern "C" fn arvadush_day_weight(profile: u8, weekday: u8, t: i16) -> Outcome
-    ensures { λ r. ⌜ WeightReturned profile weekday t r ⌝ }
+    ensures { λ r. ⌜ WeightMet profile weekday t (r .number) (r .place) (r .value) ⌝ }
 {
     returned::weight(profile::day_weight(profile, weekday, t))
 }
@@ -114,7 +122,7 @@ pub extern "C" fn arvadush_weights(
     means: &[i16],
     out: &mut [u32],
 ) -> Outcome
-    ensures { λ r. ⌜ WeightsReturned profile weekday (now (means .entry)) (now (out .entry)) r (now (out .exit)) (now (means .exit)) ⌝ }
+    ensures { λ r. ⌜ WeightsMet profile weekday (now (means .entry)) (now (out .entry)) (r .number) (r .place) (now (out .exit)) (now (means .exit)) × (r .value ≡ 0) ⌝ }
 {
     returned::weights(weights::weights(profile, weekday, means, out))
 }
@@ -122,7 +130,7 @@ pub extern "C" fn arvadush_weights(
 // Clears marks and counts, whatever they held.
 #[no_mangle]
 pub extern "C" fn arvadush_open(weights: &[u32], marks: &mut [u8], counts: &mut [u64]) -> u8
-    ensures { λ r. ⌜ OpenReturned (accountIn (weights .entry) (marks .entry) (counts .entry)) r (accountIn (weights .exit) (marks .exit) (counts .exit)) ⌝ }
+    ensures { λ r. ⌜ OpenMet (accountIn (weights .entry) (marks .entry) (counts .entry)) r (accountIn (weights .exit) (marks .exit) (counts .exit)) ⌝ }
 {
     account::number_of(account::open(weights, marks, counts))
 }
@@ -136,7 +144,7 @@ pub extern "C" fn arvadush_reading(
     k: usize,
     count: u64,
 ) -> u8
-    ensures { λ r. ⌜ ReadingReturned k count (accountIn (weights .entry) (marks .entry) (counts .entry)) r (accountIn (weights .exit) (marks .exit) (counts .exit)) ⌝ }
+    ensures { λ r. ⌜ ReadingMet (accountIn (weights .entry) (marks .entry) (counts .entry)) k count r (accountIn (weights .exit) (marks .exit) (counts .exit)) ⌝ }
 {
     account::number_of(account::reading(weights, marks, counts, k, count))
 }
@@ -149,7 +157,7 @@ pub extern "C" fn arvadush_withdraw(
     counts: &mut [u64],
     k: usize,
 ) -> u8
-    ensures { λ r. ⌜ WithdrawReturned k (accountIn (weights .entry) (marks .entry) (counts .entry)) r (accountIn (weights .exit) (marks .exit) (counts .exit)) ⌝ }
+    ensures { λ r. ⌜ WithdrawMet (accountIn (weights .entry) (marks .entry) (counts .entry)) k r (accountIn (weights .exit) (marks .exit) (counts .exit)) ⌝ }
 {
     account::number_of(account::withdraw(weights, marks, counts, k))
 }
@@ -157,7 +165,7 @@ pub extern "C" fn arvadush_withdraw(
 // Sets a cut at boundary k.
 #[no_mangle]
 pub extern "C" fn arvadush_cut(weights: &[u32], marks: &mut [u8], counts: &[u64], k: usize) -> u8
-    ensures { λ r. ⌜ CutReturned k (accountIn (weights .entry) (marks .entry) (counts .entry)) r (accountIn (weights .exit) (marks .exit) (counts .exit)) ⌝ }
+    ensures { λ r. ⌜ CutMet (accountIn (weights .entry) (marks .entry) (counts .entry)) k r (accountIn (weights .exit) (marks .exit) (counts .exit)) ⌝ }
 {
     account::number_of(account::cut(weights, marks, counts, k))
 }
@@ -165,7 +173,7 @@ pub extern "C" fn arvadush_cut(weights: &[u32], marks: &mut [u8], counts: &[u64]
 // Removes the cut at boundary k.
 #[no_mangle]
 pub extern "C" fn arvadush_uncut(weights: &[u32], marks: &mut [u8], counts: &[u64], k: usize) -> u8
-    ensures { λ r. ⌜ UncutReturned k (accountIn (weights .entry) (marks .entry) (counts .entry)) r (accountIn (weights .exit) (marks .exit) (counts .exit)) ⌝ }
+    ensures { λ r. ⌜ UncutMet (accountIn (weights .entry) (marks .entry) (counts .entry)) k r (accountIn (weights .exit) (marks .exit) (counts .exit)) ⌝ }
 {
     account::number_of(account::uncut(weights, marks, counts, k))
 }
@@ -180,7 +188,7 @@ pub extern "C" fn arvadush_statement(
     to: &mut [u16],
     wh: &mut [u64],
 ) -> Outcome
-    ensures { λ r. ⌜ StatementReturned (accountIn (weights .entry) (marks .entry) (counts .entry)) (outputsIn (from .entry) (to .entry) (wh .entry)) r (accountIn (weights .exit) (marks .exit) (counts .exit)) (outputsIn (from .exit) (to .exit) (wh .exit)) ⌝ }
+    ensures { λ r. ⌜ StatementMet (accountIn (weights .entry) (marks .entry) (counts .entry)) (outputsIn (from .entry) (to .entry) (wh .entry)) (r .number) (r .value) (accountIn (weights .exit) (marks .exit) (counts .exit)) (outputsIn (from .exit) (to .exit) (wh .exit)) × (r .place ≡ 0) ⌝ }
 {
     returned::statement(statement::statement(weights, marks, counts, from, to, wh))
 }
@@ -188,7 +196,7 @@ pub extern "C" fn arvadush_statement(
 // The customer value of this energy in Wh over these weights, in units of 0.1 Wh.
 #[no_mangle]
 pub extern "C" fn arvadush_customer_value(energy: u64, weights: &[u32]) -> Outcome
-    ensures { λ r. ⌜ CustomerReturned energy (now (weights .entry)) r (now (weights .exit)) ⌝ }
+    ensures { λ r. ⌜ CustomerMet energy (now (weights .entry)) (r .number) (r .value) (now (weights .exit)) × (r .place ≡ 0) ⌝ }
 {
     returned::customer(customer::customer_value(energy, weights))
 }
@@ -196,7 +204,7 @@ pub extern "C" fn arvadush_customer_value(energy: u64, weights: &[u32]) -> Outco
 // The Wh of a day with this weight for a customer with this value.
 #[no_mangle]
 pub extern "C" fn arvadush_daily_amount(value: u64, weight: u32) -> Outcome
-    ensures { λ r. ⌜ AmountReturned value weight r ⌝ }
+    ensures { λ r. ⌜ AmountMet value weight (r .number) (r .value) × (r .place ≡ 0) ⌝ }
 {
     returned::customer(customer::daily_amount(value, weight))
 }
@@ -209,7 +217,7 @@ pub extern "C" fn arvadush_read(
     marks: &mut [u8],
     counts: &mut [u64],
 ) -> Outcome
-    ensures { λ r. ⌜ ReadReturned (now (file .entry)) (accountIn (weights .entry) (marks .entry) (counts .entry)) r (accountIn (weights .exit) (marks .exit) (counts .exit)) (now (file .exit)) ⌝ }
+    ensures { λ r. ⌜ ReadMet (now (file .entry)) (accountIn (weights .entry) (marks .entry) (counts .entry)) (r .number) (r .place) (r .value) (accountIn (weights .exit) (marks .exit) (counts .exit)) (now (file .exit)) ⌝ }
 {
     returned::case(casefile::read_case(file, weights, marks, counts))
 }

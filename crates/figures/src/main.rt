@@ -1,4 +1,4 @@
-// Prints outside numbers through the exported calls, to be compared with the stored output (By program).
+// Prints outside numbers through the exported calls, to be compared with the stored output (Starred cases, "By program").
 use customer::CustomerAnswer;
 use libc::STDOUT_FILENO;
 use profile::Profile;
@@ -99,7 +99,7 @@ fn temperature() {
     word(b"temperature of -200, 50, 340, 360: ");
     match weights::temperature(-200, 50, 340, 360) {
         TemperatureAnswer::Temperature(t) => signed(from_i16(t)),
-        TemperatureAnswer::OutOfRange(k) => refused(4),
+        TemperatureAnswer::OutOfRange(_) => refused(4),
     }
     end_line();
 }

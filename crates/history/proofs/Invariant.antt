@@ -1,6 +1,6 @@
 -- What holds of the account all along a run (Account and its calls): it fits, is sound, has the weights that open was given, and shows
 -- what stands. Every call keeps that, refused or not. Assumes nothing.
-use Prim.Native.Nat.{ℕ, zero, suc, _≤_}
+use Prim.Native.Nat.{ℕ, suc}
 use mathlib.Core.Path.{_≡_, refl, sym, _∙_, subst₂}
 use mathlib.Core.Bool.{Bool, true, false, cond}
 use mathlib.Core.List.{List, [], _∷_, _++_, map}
@@ -9,11 +9,12 @@ use lib.ListN.{length, getD}
 use borrow.Author.Tests.{eqb-true, leb-true}
 use native.Mathlib.Omega.{arith}
 use Rattle.account.specs.Stands.{Stands, nothing}
-use Rattle.account.specs.Account.{Account, days, shown, markOf, marksReading, marksCut, goodMarks}
+use Rattle.account.specs.Account.{Account, days, shown, goodMarks}
 use Rattle.profile.specs.Rows.{ifDone}
 use Rattle.account.specs.Refusals.{accountRows, readingRows, withdrawRows, cutRows, uncutRows}
 use Rattle.account.specs.Calls.{readingPut, readingTaken, cutPut, cutTaken}
 use Rattle.account.proofs.Below.{every-at}
+use Rattle.account.proofs.Stores.{mark-is}
 use Rattle.account.proofs.Sound.{fit, sound-parts}
 use Rattle.account.specs.Slices.{Checked}
 use Rattle.account.proofs.Keeps.{Holds, reading-keeps, withdraw-keeps, cut-keeps, uncut-keeps}
@@ -41,7 +42,7 @@ step a (run.withdraw k r b) f met =
     changes a (readingTaken a k) b _ (withdrawRows (days a) (shown a) k) f (met .leaves) (withdraw-keeps a f k)
 step a (run.cut k r b) f met = changes a (cutPut a k) b _ (cutRows (days a) (shown a) k) f (met .leaves) (cut-keeps a f k)
 step a (run.uncut k r b) f met = changes a (cutTaken a k) b _ (uncutRows (days a) (shown a) k) f (met .leaves) (uncut-keeps a f k)
-step a (run.statement o r b out) f met = rw (met .stays) (same a f)
+step a (run.statement o r m b out) f met = rw (met .stays) (same a f)
 
 steps : (w : List ℕ) (s : Stands) (a : Account) (e : Event) → Holds w s a → Step a e → Holds w (after (length w) s (call e)) (accountAfter e)
 steps w s a e holds met =
@@ -62,14 +63,6 @@ unfolding standsFrom
 snoc n s [] e = refl
 snoc n s (c ∷ before) e = snoc n (after n s (call c)) before e
 
--- a mark from 0 to 3 is the one for the reading and the cut that it shows
-mark-shows : (m : ℕ) → m ≤ 3 → m ≡ markOf (marksReading m) (marksCut m)
-mark-shows zero small = refl
-mark-shows (suc zero) small = refl
-mark-shows (suc (suc zero)) small = refl
-mark-shows (suc (suc (suc zero))) small = refl
-mark-shows (suc (suc (suc (suc m)))) small = absurd (omega arith)
-
 -- a sound account has the slices of what it shows
 carries : (a : Account) → Checked a → Carries (a .weights) (shown a) a
 unfolding goodMarks
@@ -80,7 +73,7 @@ carries a f =
       marks-long = lengths .marks;
       counts-long = lengths .counts;
       mark-is =
-          λ k h. mark-shows (getD (a .marks) k 0)
+          λ k h. mark-is (getD (a .marks) k 0)
           (leb-true (getD (a .marks) k 0) 3 (every-at (λ j. leb (getD (a .marks) j 0) 3) (suc (days a)) (sound-parts a (f .sound) .marks) k (omega arith)));
       count-is = λ k h. refl;
     }
@@ -98,7 +91,7 @@ answers a (run.reading k v r b) f met = rw (f .fits, f .sound) at (met .answers)
 answers a (run.withdraw k r b) f met = rw (f .fits, f .sound) at (met .answers)
 answers a (run.cut k r b) f met = rw (f .fits, f .sound) at (met .answers)
 answers a (run.uncut k r b) f met = rw (f .fits, f .sound) at (met .answers)
-answers a (run.statement o r b out) f met = rw (f .fits, f .sound) at (met .answers)
+answers a (run.statement o r m b out) f met = rw (f .fits, f .sound) at (met .answers)
 
 pub table-says : (w : List ℕ) (s : Stands) (a : Account) (e : Event) → Holds w s a → Step a e → answered e ≡ tableSays (length w) s (call e)
 table-says w s a e holds met =

@@ -1,25 +1,23 @@
 -- Demand 3: `demand3` proves specs/Demand3.antt for every accepted open and every list of calls that runs after it. Assumes nothing.
 use Prim.Native.Nat.{ℕ, suc, _≤_}
-use mathlib.Core.Path.{_≡_, sym, _∙_, subst₂}
+use mathlib.Core.Path.{_≡_, sym, subst₂}
 use mathlib.Core.Bool.{true}
 use mathlib.Core.List.{List}
 use native.Mathlib.Omega.{arith}
 use lib.Dec.{lit<}
 use lib.ListN.{length}
-use Rattle.account.specs.declared.Answer.{Answer}
 use Rattle.account.specs.Stands.{Stands, nothing}
 use Rattle.account.specs.Account.{Account, days, shown}
 use Rattle.account.specs.Refusals.{openNumber}
-use Rattle.account.specs.Calls.{OpenMet, number}
+use Rattle.account.specs.Calls.{OpenMet}
 use Rattle.account.proofs.Pairs.{pairs}
 use Rattle.account.proofs.Sound.{sound-parts}
 use Rattle.account.specs.Slices.{Checked}
 use Rattle.account.proofs.Rows.{row-none}
 use Rattle.account.proofs.Keeps.{Holds, shown-inside, open-keeps}
-use Rattle.statement.specs.declared.StatementAnswer.the-variants.{Parts}
+use Rattle.profile.specs.Rows.{ifDone}
 use Rattle.statement.specs.Parts.{Outputs, parts, written}
-use Rattle.statement.specs.Call as statement
-use Rattle.statement.specs.Call.{StatementMet, unfitOutputs}
+use Rattle.statement.specs.Call.{StatementMet, unfitOutputs, outputsAfter}
 use Rattle.statement.specs.Facts.{Valid, TwoReadings}
 use Rattle.statement.proofs.Order.{valid-of-sound}
 use Rattle.statement.proofs.Successive.{successive}
@@ -37,7 +35,7 @@ record By (w : List ℕ) (s : Stands) (m : ℕ) (out : Outputs) : Type 0 where
   valid : Valid w (s .readings)
   inside : (k : ℕ) → s .readings .at k ≡ true → k ≤ length w
 
-by : (a : Account) (lent : Outputs) (m : ℕ) (b : Account) (out : Outputs) → Checked a → StatementMet a lent (Parts m) b out → By (a .weights) (shown a) m out
+by : (a : Account) (lent : Outputs) (m : ℕ) (b : Account) (out : Outputs) → Checked a → StatementMet a lent 0 m b out → By (a .weights) (shown a) m out
 by a lent m b out f met =
     let rows = row-none (unfitOutputs (days a) lent) _ _ (lit< tt) (sym (rw (f .fits, f .sound) at (met .answers))) in
     record {
@@ -58,7 +56,7 @@ module _ (w : List ℕ) (opened : Account) (start : Holds w nothing opened) (es 
 
   given : (before : List Event) (m : ℕ) (out : Outputs) → Given es before m out → By w (standing w before) m out
   given before m out (lent, b, among) =
-      let (a, holds, met) = before-each before (run.statement lent (Parts m) b out) among in
+      let (a, holds, met) = before-each before (run.statement lent 0 m b out) among in
       subst₂ (λ v s. By v s m out) (holds .weighs) (holds .shows) (by a lent m b out (holds .checked) met)
 
   claims : Demand3 w es
@@ -67,10 +65,10 @@ module _ (w : List ℕ) (opened : Account) (start : Holds w nothing opened) (es 
         refusals = λ before e among. let (a, holds, met) = before-each before e among in table-says w (standing w before) a e holds met;
         leaves = λ before e among. let (a, holds, met) = before-each before e among in leaves-standing w before a e holds met;
         writes =
-            λ before lent answer b out among.
-            let (a, holds, met) = before-each before (run.statement lent answer b out) among in
-            subst₂ (λ v s. out ≡ statement.outputsAfter (statement.number answer) (written (length v) (parts v s)) lent)
-            (holds .weighs) (holds .shows) (rw (← (met .answers)) at (met .writes));
+            λ before lent r m b out among.
+            let (a, holds, met) = before-each before (run.statement lent r m b out) among in
+            subst₂ (λ v s. (out ≡ outputsAfter r (written (length v) (parts v s)) lent) × (m ≡ ifDone r (length (parts v s)) 0))
+            (holds .weighs) (holds .shows) (rw (← (met .answers)) at (met .writes), rw (← (met .answers)) at (met .gives));
         statements = λ before m out g. let by = given before m out g in (by .counts, by .writes);
         successive = λ before m out g. let by = given before m out g in rw (by .counts, by .writes) (successive w (standing w before) (by .two));
         rising =
@@ -92,10 +90,10 @@ module _ (w : List ℕ) (opened : Account) (start : Holds w nothing opened) (es 
             (by₁ .inside q (adj₁ .at-q)) low high mark₁ mark₂);
       }
 
-opens : (before opened : Account) (answer : Answer) → OpenMet before answer opened → number answer ≡ 0 → Holds (before .weights) nothing opened
-opens before opened answer met done =
-    let zero : openNumber before ≡ 0 = sym (met .answers) ∙ done in
+opens : (before opened : Account) → OpenMet before 0 opened → Holds (before .weights) nothing opened
+opens before opened met =
+    let zero : openNumber before ≡ 0 = sym (met .answers) in
     rw (rw zero at (met .leaves)) (open-keeps before zero)
 
 pub demand3 : Claim
-demand3 before opened answer met done es runs = claims (before .weights) opened (opens before opened answer met done) es runs
+demand3 before opened met es runs = claims (before .weights) opened (opens before opened met) es runs

@@ -6,20 +6,16 @@ use mathlib.Core.Bool.{true}
 use mathlib.Core.List.{List, [], _∷_, _++_, map}
 use lib.IntN.{ℤ}
 use lib.ListN.{length, getD}
-use Rattle.weights.specs.declared.WeightsAnswer.{WeightsAnswer}
+use Rattle.profile.specs.Rows.{ifDone}
 use Rattle.weights.specs.Weights.{WeightsMet}
-use Rattle.weights.specs.Weights as weights
-use Rattle.account.specs.Account.{Account, account, markOf}
+use Rattle.account.specs.Account.{Account, markOf}
 use Rattle.account.specs.Refusals.{openNumber}
-use Rattle.account.specs.declared.Answer.{Answer}
-use Rattle.account.specs.Calls.{OpenMet, number}
+use Rattle.account.specs.Calls.{OpenMet}
 use Rattle.account.specs.Stands.{Stands, lastLessFirst}
-use Rattle.statement.specs.declared.StatementAnswer.the-variants.{Parts}
 use Rattle.statement.specs.Parts.{Outputs, parts, marked, statementOf}
 use Rattle.statement.specs.Shares.{Adjacent, Shared, total, energy}
 use Rattle.statement.specs.Facts.{Successive}
-use Rattle.statement.specs.declared.StatementAnswer.{StatementAnswer}
-use Rattle.statement.specs.Call as statement
+use Rattle.statement.specs.Call.{outputsAfter}
 use Rattle.history.specs.Run.{Event, Run, call, accountAfter, answered, tableSays, standing}
 use Rattle.history.specs.Run as run
 use Rattle.history.specs.History.{Call}
@@ -30,7 +26,7 @@ Among es before e = (rest : List Event) × (es ≡ before ++ (e ∷ rest))
 
 -- the event of the list that comes after `before` is a statement that was given: m parts, written to `out`
 abbrev pub Given : List Event → List Event → ℕ → Outputs → Type 0
-Given es before m out = (lent : Outputs) × (after : Account) × Among es before (run.statement lent (Parts m) after out)
+Given es before m out = (lent : Outputs) × (after : Account) × Among es before (run.statement lent 0 m after out)
 
 -- the account's slices are those that what stands has: its weights, and the marks and counts of boundaries 0 to n and of no others
 pub record Carries (w : List ℕ) (s : Stands) (a : Account) : Type 0 where
@@ -44,11 +40,10 @@ pub record Demand3 (w : List ℕ) (es : List Event) : Type 0 where
   -- "A call is refused exactly when and as the table, applied to what stands, says."
   pub refusals : (before : List Event) (e : Event) → Among es before e → answered e ≡ tableSays (length w) (standing w before) (call e)
   -- "... and as": what the table says of memory. The account's slices are left as its calls so far make it stand, and a statement's
-  -- outputs are the rule's, zero (11) or untouched (3).
+  -- outputs are the rule's, zero (11) or untouched (3), and a refused number of parts is 0.
   pub leaves : (before : List Event) (e : Event) → Among es before e → Carries w (standing w (before ++ (e ∷ []))) (accountAfter e)
-  pub writes : (before : List Event) (lent : Outputs) (answer : StatementAnswer) (a : Account) (out : Outputs) →
-      Among es before (run.statement lent answer a out) →
-      out ≡ statement.outputsAfter (statement.number answer) (statementOf w (standing w before)) lent
+  pub writes : (before : List Event) (lent : Outputs) (r m : ℕ) (a : Account) (out : Outputs) → Among es before (run.statement lent r m a out) →
+      (out ≡ outputsAfter r (statementOf w (standing w before)) lent) × (m ≡ ifDone r (length (parts w (standing w before))) 0)
   -- "Every statement given has the number of parts, and the from, to and Wh of each, that the paper's rule gives for what then stands."
   pub statements : (before : List Event) (m : ℕ) (out : Outputs) → Given es before m out →
       (m ≡ length (parts w (standing w before))) × (out ≡ statementOf w (standing w before))
@@ -77,28 +72,28 @@ pub record Demand3 (w : List ℕ) (es : List Event) : Type 0 where
 
 -- The claim: for every accepted open, from any contents of marks and counts, and every list of calls that runs after it.
 abbrev pub Claim : Type 0
-Claim =
-    (before opened : Account) (answer : Answer) → OpenMet before answer opened → number answer ≡ 0 →
-    (es : List Event) → Run opened es → Demand3 (before .weights) es
+Claim = (before opened : Account) → OpenMet before 0 opened → (es : List Event) → Run opened es → Demand3 (before .weights) es
 
 -- "... for every list": any calls, with any arguments and any lent outputs, run in this order, on any account. (proofs/EveryList, `every-list-runs`)
 abbrev pub EveryListRuns : Type 0
 EveryListRuns = (a : Account) (cs : List Call) → (es : List Event) × Run a es × (map call es ≡ cs)
 
--- "... over weights from demand 2": weights that the weights call gives are ones that open accepts, with any marks and counts of the lengths
--- for them. (proofs/Opens, `opens`)
+-- "... over weights from demand 2": the weights are those that some weights call gave, and marks and counts have the lengths for them
+pub record Weighed (a : Account) : Type 0 where
+  pub profile : ℕ
+  pub weekday : ℕ
+  pub means : List ℤ
+  pub meansAfter : List ℤ
+  pub lent : List ℕ
+  pub given : WeightsMet profile weekday means lent 0 0 (a .weights) meansAfter
+  pub marks-long : length (a .marks) ≡ length (a .weights) + 1
+  pub counts-long : length (a .counts) ≡ length (a .weights) + 1
+
+-- open accepts these (proofs/Opens, `opens`)
 abbrev pub OverWeights : Type 0
-OverWeights =
-    (profile weekday : ℕ) (means : List ℤ) (lent : List ℕ) (given : WeightsAnswer) (w : List ℕ) (kept : List ℤ) →
-    WeightsMet profile weekday means lent given w kept → weights.number given ≡ 0 →
-    (marks counts : List ℕ) → length marks ≡ length w + 1 → length counts ≡ length w + 1 →
-    openNumber (account w marks counts) ≡ 0
+OverWeights = (a : Account) → Weighed a → openNumber a ≡ 0
 
 -- so the claim holds of every list of calls on an account over them (`demand3-over-weights`)
 abbrev pub ClaimOverWeights : Type 0
 ClaimOverWeights =
-    (profile weekday : ℕ) (means : List ℤ) (lent : List ℕ) (given : WeightsAnswer) (w : List ℕ) (kept : List ℤ) →
-    WeightsMet profile weekday means lent given w kept → weights.number given ≡ 0 →
-    (marks counts : List ℕ) → length marks ≡ length w + 1 → length counts ≡ length w + 1 →
-    (answer : Answer) (opened : Account) → OpenMet (account w marks counts) answer opened →
-    (es : List Event) → Run opened es → Demand3 w es
+    (a opened : Account) → Weighed a → (answered : ℕ) → OpenMet a answered opened → (es : List Event) → Run opened es → Demand3 (a .weights) es

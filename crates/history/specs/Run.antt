@@ -3,27 +3,24 @@
 use Prim.Native.Nat.{ℕ}
 use mathlib.Core.List.{List, [], _∷_, map}
 use lib.ListN.{length}
-use Rattle.account.specs.declared.Answer.{Answer}
 use Rattle.account.specs.Stands.{Stands}
 use Rattle.account.specs.Account.{Account}
 use Rattle.profile.specs.Rows.{row}
 use Rattle.account.specs.Refusals.{readingRows, withdrawRows, cutRows, uncutRows}
-use Rattle.account.specs.Calls as calls
 use Rattle.account.specs.Calls.{ReadingMet, WithdrawMet, CutMet, UncutMet}
-use Rattle.statement.specs.declared.StatementAnswer.{StatementAnswer}
 use Rattle.statement.specs.Parts.{Outputs}
 use Rattle.statement.specs.Call.{StatementMet, statementRows, unfitOutputs}
-use Rattle.statement.specs.Call as statements
 use Rattle.history.specs.History.{Call}
 use Rattle.history.specs.History as history
 
--- a call together with what it answered and left: the account after it, and of a statement the outputs before and after it
+-- a call together with the number that it answered and what it left: the account after it, and of a statement the number of its parts and the
+-- outputs before and after it
 pub data Event : Type 0 where
-  reading : (k v : ℕ) (answer : Answer) (left : Account) → Event
-  withdraw : (k : ℕ) (answer : Answer) (left : Account) → Event
-  cut : (k : ℕ) (answer : Answer) (left : Account) → Event
-  uncut : (k : ℕ) (answer : Answer) (left : Account) → Event
-  statement : (lent : Outputs) (answer : StatementAnswer) (left : Account) (out : Outputs) → Event
+  reading : (k v r : ℕ) (left : Account) → Event
+  withdraw : (k r : ℕ) (left : Account) → Event
+  cut : (k r : ℕ) (left : Account) → Event
+  uncut : (k r : ℕ) (left : Account) → Event
+  statement : (lent : Outputs) (r m : ℕ) (left : Account) (out : Outputs) → Event
 
 -- the call alone, as the list has it
 abbrev pub call : Event → Call
@@ -31,7 +28,7 @@ call (reading k v r a) = Call.reading k v
 call (withdraw k r a) = Call.withdraw k
 call (cut k r a) = Call.cut k
 call (uncut k r a) = Call.uncut k
-call (statement o r a e) = Call.statement o
+call (statement o r m a e) = Call.statement o
 
 -- the account as the call left it
 abbrev pub accountAfter : Event → Account
@@ -39,15 +36,15 @@ accountAfter (reading k v r a) = a
 accountAfter (withdraw k r a) = a
 accountAfter (cut k r a) = a
 accountAfter (uncut k r a) = a
-accountAfter (statement o r a e) = a
+accountAfter (statement o r m a e) = a
 
 -- the number that the call answered
 abbrev pub answered : Event → ℕ
-answered (reading k v r a) = calls.number r
-answered (withdraw k r a) = calls.number r
-answered (cut k r a) = calls.number r
-answered (uncut k r a) = calls.number r
-answered (statement o r a e) = statements.number r
+answered (reading k v r a) = r
+answered (withdraw k r a) = r
+answered (cut k r a) = r
+answered (uncut k r a) = r
+answered (statement o r m a e) = r
 
 -- the number that the table, applied to what stands, gives the call over n days: 3 and 5 of the account cannot arise after open
 abbrev pub tableSays : ℕ → Stands → Call → ℕ
@@ -63,7 +60,7 @@ Step a (reading k v r b) = ReadingMet a k v r b
 Step a (withdraw k r b) = WithdrawMet a k r b
 Step a (cut k r b) = CutMet a k r b
 Step a (uncut k r b) = UncutMet a k r b
-Step a (statement o r b e) = StatementMet a o r b e
+Step a (statement o r m b e) = StatementMet a o r m b e
 
 -- each call gets the account as the one before left it
 abbrev pub Run : Account → List Event → Type 0

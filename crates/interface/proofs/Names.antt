@@ -1,4 +1,4 @@
--- Each call for C and Rust has the contract of its name, by computation. Assumes nothing.
+-- Each call for C and Rust (If a call declines) has the contract of its name, by computation. Assumes nothing.
 use mathlib.Core.Path.{refl}
 use Rattle.interface.specs.Named.{Named}
 

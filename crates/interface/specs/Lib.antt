@@ -1,3 +1,2 @@
 -- What crate interface claims of the calls for C and Rust (demand 3; If a call declines).
 pub mod Named
-pub mod Lists

@@ -1,4 +1,4 @@
--- The laws that the proofs of crate layout share, and its theorems.
+-- The laws that the proofs of crate layout share, and its theorems (Case file).
 pub mod Decimal
 pub mod Laid
 mod Sums

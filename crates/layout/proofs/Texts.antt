@@ -23,7 +23,7 @@ pub too-long : (a : Account) → spanMost < days a → accountNumber a ≡ 3
 too-long a h = simp (lt-leb (days a) spanMost h, and-false)
 
 module _ (a : Account) (o : Outputs) (f : length (o .from) ≡ days a) (t : length (o .to) ≡ days a) (w : length (o .wh) ≡ days a)
-    (answer : StatementAnswer) (out : Outputs) (met : StatementMet a o answer a out) where
+    (answer : StatementAnswer) (out : Outputs) (met : StatementMet a o (number answer) (partCount answer) a out) where
   same-number : statementNumber a o ≡ accountNumber a
   same-number = simp (eq-eqb (length (o .from)) (days a) f, eq-eqb (length (o .to)) (days a) t, eq-eqb (length (o .wh)) (days a) w, or-false)
 

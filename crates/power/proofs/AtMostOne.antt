@@ -6,7 +6,7 @@ use Prim.Native.Nat.{ℕ, zero, suc, _*_, _/_, _%_, _^_, _≤_, _<_}
 use native.Mathlib.Nat.{le-refl, mul-comm, mul-le-mul, mul-le-mul-right}
 use lib.Dec.{eqb}
 use Rattle.power.specs.declared.rounded.Rounding.{Rounding}
-use Rattle.power.specs.Power.{one, quotient, scaledProduct, nextRoot, raise, climb, power}
+use Rattle.power.specs.Power.{one, quotient, scaledProduct, nextRoot, raise, timesRoots, power}
 use Rattle.power.proofs.Quotient.{quotient-le, quotient-exact}
 use Rattle.power.proofs.Root.{one-pos, root-le, root-exact}
 
@@ -32,14 +32,14 @@ module _ (way : Rounding) where
   raise-le zero r p hr hp = hp
   raise-le (suc n) r p hr hp = raise-le n r (scaledProduct way p r) hr (product-le p r hp hr)
 
-  climb-le : (k r p c : ℕ) → r ≤ one → p ≤ one → climb way k r p c ≤ one
-  unfolding climb
-  climb-le zero r p c hr hp = hp
-  climb-le (suc k) r p c hr hp = climb-le k (nextRoot way r) _ c (next-le r hr) (cond-le (eqb (c / 2 ^ k % 2) 1) p (nextRoot way r) hp (next-le r hr))
+  times-roots-le : (k r p c : ℕ) → r ≤ one → p ≤ one → timesRoots way k r p c ≤ one
+  unfolding timesRoots
+  times-roots-le zero r p c hr hp = hp
+  times-roots-le (suc k) r p c hr hp = times-roots-le k (nextRoot way r) _ c (next-le r hr) (cond-le (eqb (c / 2 ^ k % 2) 1) p (nextRoot way r) hp (next-le r hr))
 
   pub power-le : (r c : ℕ) → r ≤ one → power way r c ≤ one
   unfolding power
-  power-le r c h = climb-le 24 r _ (c % 2 ^ 24) h (raise-le (c / 2 ^ 24) r one h (le-refl one))
+  power-le r c h = times-roots-le 24 r _ (c % 2 ^ 24) h (raise-le (c / 2 ^ 24) r one h (le-refl one))
 
   pub ratio-one : (N M : ℕ) → 0 < M → N ≡ M → quotient way (N * one) M ≡ one
   ratio-one N M pos e = rw (e, mul-comm M one) (quotient-exact way M one pos)
@@ -61,11 +61,11 @@ module _ (way : Rounding) where
   raise-one zero = refl
   raise-one (suc n) = rw product-one (raise-one n)
 
-  climb-one : (k c : ℕ) → climb way k one one c ≡ one
-  unfolding climb
-  climb-one zero c = refl
-  climb-one (suc k) c = rw (next-one, cond-one (eqb (c / 2 ^ k % 2) 1)) (climb-one k c)
+  times-roots-one : (k c : ℕ) → timesRoots way k one one c ≡ one
+  unfolding timesRoots
+  times-roots-one zero c = refl
+  times-roots-one (suc k) c = rw (next-one, cond-one (eqb (c / 2 ^ k % 2) 1)) (times-roots-one k c)
 
   pub power-one : (c : ℕ) → power way one c ≡ one
   unfolding power
-  power-one c = rw raise-one (climb-one 24 (c % 2 ^ 24))
+  power-one c = rw raise-one (times-roots-one 24 (c % 2 ^ 24))

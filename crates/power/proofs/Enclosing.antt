@@ -9,7 +9,7 @@ use native.Mathlib.Omega.{arith}
 use lib.Dec.{eqb}
 use lib.Pow.{pow-add, mod-pow-add}
 use Rattle.power.specs.declared.rounded.Rounding.{Rounding}
-use Rattle.power.specs.Power.{one, scaledProduct, nextRoot, raise, climb, power}
+use Rattle.power.specs.Power.{one, scaledProduct, nextRoot, raise, timesRoots, power}
 use Rattle.power.proofs.Powers.{mul-pow, pow-mul, pow-one, pow-double}
 use Rattle.power.proofs.Way.{Rounded, same, chain, times, cancel, raised, lowered, eased}
 use Rattle.power.proofs.Quotient.{quotient-rounded}
@@ -58,19 +58,19 @@ bit-reached K zero p h = rw zero-mul (none K p)
 bit-reached {way} {r} K (suc zero) p h = simp one-mul (simp one-mul at (again {way = way} {r = r} K (once p)))
 bit-reached K (suc (suc d)) p h = absurd (omega arith)
 
-climb-reached : {way : Rounding} (k r p c : ℕ) → Reached way (2 ^ k) (c % 2 ^ k) p (climb way k r p c) r
-unfolding climb
-climb-reached zero r p c = rw mod-one (none 1 p)
-climb-reached (suc k) r p c =
+times-roots-reached : {way : Rounding} (k r p c : ℕ) → Reached way (2 ^ k) (c % 2 ^ k) p (timesRoots way k r p c) r
+unfolding timesRoots
+times-roots-reached zero r p c = rw mod-one (none 1 p)
+times-roots-reached (suc k) r p c =
     let split : c % 2 ^ suc k ≡ c / 2 ^ k % 2 * 2 ^ k + c % 2 ^ k = rw one-add at (mod-pow-add c 1 k) in
-    rw (split, pow-suc) (halved (joined (bit-reached (2 ^ k) (c / 2 ^ k % 2) p (omega arith)) (climb-reached k _ _ c)))
+    rw (split, pow-suc) (halved (joined (bit-reached (2 ^ k) (c / 2 ^ k % 2) p (omega arith)) (times-roots-reached k _ _ c)))
 
 pub power-reached : {way : Rounding} (r c : ℕ) → Reached way (2 ^ 24) c one (power way r c) r
 unfolding power
 power-reached {way} r c =
     let e : c / 2 ^ 24 * 2 ^ 24 + c % 2 ^ 24 % 2 ^ 24 ≡ c = omega arith in
     subst (λ (x : ℕ). Reached way (2 ^ 24) x one (power way r c) r) e
-    (joined (again (2 ^ 24) (raise-reached (c / 2 ^ 24) r one)) (climb-reached 24 r _ (c % 2 ^ 24)))
+    (joined (again (2 ^ 24) (raise-reached (c / 2 ^ 24) r one)) (times-roots-reached 24 r _ (c % 2 ^ 24)))
 
 -- With K for 2^24 and T for 10^7: from r over one to N over M, from c over K to C over T, and the K-th root taken
 pub exact : {way : Rounding} {r c q : ℕ} (N M C K T : ℕ) → N ≤ M → 0 < M → 0 < K → Rounded way (r * M) (N * one) → Rounded way (C * K) (c * T) → Reached way K c one q r → Rounded way (q ^ T * M ^ C) (N ^ C * one ^ T)

@@ -1,12 +1,14 @@
--- What is known of the two bounds of a power (Profile value), for every ratio N / M at most one and every exponent: they enclose the exact power, they are at most one, and one where the ratio is.
+-- What is known of the two bounds of a power (Profile value), for every ratio N / M at most one and every exponent: they enclose the exact power, the lower is at most the upper, they are at most one, and one where the ratio is.
 -- Assumes nothing.
 use mathlib.Core.Path.{_≡_}
 use Prim.Native.Nat.{ℕ, _*_, _^_, _≤_, _<_}
+use native.Mathlib.Nat.{le-trans, le-of-mul-le-mul-right, one-le-pow}
 use native.Mathlib.Omega.{arith}
 use lib.Dec.{lit<}
 use borrow.Author.Tests.{ne-eqb, le-ltb}
 use Rattle.power.specs.declared.rounded.Rounding.the-variants.{Down, Up}
 use Rattle.power.specs.Power.{one, exponent, cLow, cHigh, pLow, pHigh, AtMost, AtLeast, Encloses, Enclosing, ofRatio, lowerOf, upperOf}
+use Rattle.power.proofs.Powers.{pow-cancel}
 use Rattle.power.proofs.Way.{Rounded, below, above, at-most, at-least}
 use Rattle.power.proofs.Quotient.{quotient-rounded}
 use Rattle.power.proofs.AtMostOne.{ratio-le, ratio-one, power-le, power-one}
@@ -30,6 +32,10 @@ module _ (N M C : ℕ) (pos : 0 < M) where
           below = at-most (exact N M C (2 ^ 24) (10 ^ 7) le pos (lit< tt) (quotient-rounded Down (N * one) M pos) (cHigh-rounded C) (power-reached _ _));
           above = at-least (exact N M C (2 ^ 24) (10 ^ 7) le pos (lit< tt) (quotient-rounded Up (N * one) M pos) (cLow-rounded C) (power-reached _ _));
         }
+
+    pub low-le-high : pLow N M C ≤ pHigh N M C
+    unfolding AtMost AtLeast
+    low-le-high = pow-cancel (10 ^ 7) (lit< tt) (le-of-mul-le-mul-right (le-trans (enclosed .below) (enclosed .above)) (one-le-pow C M pos))
 
     pub low-le-one : pLow N M C ≤ one
     unfolding pLow

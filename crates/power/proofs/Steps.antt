@@ -7,7 +7,7 @@ use native.Mathlib.Omega.{arith}
 use lib.Dec.{eqb}
 use borrow.Author.Tests.{eq-eqb, ne-eqb}
 use Rattle.power.specs.declared.rounded.Rounding.{Rounding}
-use Rattle.power.specs.Power.{scaledProduct, nextRoot, raise, climb}
+use Rattle.power.specs.Power.{scaledProduct, nextRoot, raise, timesRoots}
 
 module _ (way : Rounding) where
   pub raise-done : (n r p : ℕ) → n ≤ 0 → raise way n r p ≡ p
@@ -22,20 +22,20 @@ module _ (way : Rounding) where
       let e : suc n - 1 ≡ n = omega arith in
       rw e
 
-  pub climb-done : (k r p c : ℕ) → k ≤ 0 → climb way k r p c ≡ p
-  unfolding climb
-  climb-done zero r p c h = refl
-  climb-done (suc k) r p c h = absurd (omega arith)
+  pub times-roots-done : (k r p c : ℕ) → k ≤ 0 → timesRoots way k r p c ≡ p
+  unfolding timesRoots
+  times-roots-done zero r p c h = refl
+  times-roots-done (suc k) r p c h = absurd (omega arith)
 
-  climb-turn : (k r p c : ℕ) → 0 < k → climb way k r p c ≡ climb way (k - 1) (nextRoot way r) (cond (eqb (c / 2 ^ (k - 1) % 2) 1) (scaledProduct way p (nextRoot way r)) p) c
-  unfolding climb
-  climb-turn zero r p c h = absurd (omega arith)
-  climb-turn (suc k) r p c h =
+  times-roots-turn : (k r p c : ℕ) → 0 < k → timesRoots way k r p c ≡ timesRoots way (k - 1) (nextRoot way r) (cond (eqb (c / 2 ^ (k - 1) % 2) 1) (scaledProduct way p (nextRoot way r)) p) c
+  unfolding timesRoots
+  times-roots-turn zero r p c h = absurd (omega arith)
+  times-roots-turn (suc k) r p c h =
       let e : suc k - 1 ≡ k = omega arith in
       rw e
 
-  pub climb-set : (k r p c : ℕ) → 0 < k → c / 2 ^ (k - 1) % 2 ≡ 1 → climb way k r p c ≡ climb way (k - 1) (nextRoot way r) (scaledProduct way p (nextRoot way r)) c
-  climb-set k r p c h bit = rw (eq-eqb (c / 2 ^ (k - 1) % 2) 1 bit) at (climb-turn k r p c h)
+  pub times-roots-set : (k r p c : ℕ) → 0 < k → c / 2 ^ (k - 1) % 2 ≡ 1 → timesRoots way k r p c ≡ timesRoots way (k - 1) (nextRoot way r) (scaledProduct way p (nextRoot way r)) c
+  times-roots-set k r p c h bit = rw (eq-eqb (c / 2 ^ (k - 1) % 2) 1 bit) at (times-roots-turn k r p c h)
 
-  pub climb-clear : (k r p c : ℕ) → 0 < k → (c / 2 ^ (k - 1) % 2 ≡ 1 → ⊥) → climb way k r p c ≡ climb way (k - 1) (nextRoot way r) p c
-  climb-clear k r p c h bit = rw (ne-eqb (c / 2 ^ (k - 1) % 2) 1 bit) at (climb-turn k r p c h)
+  pub times-roots-clear : (k r p c : ℕ) → 0 < k → (c / 2 ^ (k - 1) % 2 ≡ 1 → ⊥) → timesRoots way k r p c ≡ timesRoots way (k - 1) (nextRoot way r) p c
+  times-roots-clear k r p c h bit = rw (ne-eqb (c / 2 ^ (k - 1) % 2) 1 bit) at (times-roots-turn k r p c h)

@@ -90,15 +90,15 @@ raise way zero r p = p
 raise way (suc n) r p = raise way n r (scaledProduct way p r)
 
 -- p on the last k roots, r being the one before them: "If the bit of value 2^(24-j) in the rest of c is set, multiply by root j."
-unfoldable pub climb : Rounding → (k r p c : ℕ) → ℕ
-climb way zero r p c = p
-climb way (suc k) r p c =
+unfoldable pub timesRoots : Rounding → (k r p c : ℕ) → ℕ
+timesRoots way zero r p c = p
+timesRoots way (suc k) r p c =
     let root : ℕ = nextRoot way r in
-    climb way k root (cond (eqb (c / 2 ^ k % 2) 1) (scaledProduct way p root) p) c
+    timesRoots way k root (cond (eqb (c / 2 ^ k % 2) 1) (scaledProduct way p root) p) c
 
 -- "The power of r with exponent c starts at one and is multiplied by r as often as c holds 2^24 whole. Root 0 is r"
 unfoldable pub power : Rounding → (r c : ℕ) → ℕ
-power way r c = climb way 24 r (raise way (c / 2 ^ 24) r one) (c % 2 ^ 24)
+power way r c = timesRoots way 24 r (raise way (c / 2 ^ 24) r one) (c % 2 ^ 24)
 
 -- "each root and product is rounded down", "each is rounded up"
 abbrev pub powerLow : (r c : ℕ) → ℕ

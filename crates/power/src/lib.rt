@@ -1,8 +1,8 @@
 // Powers of a ratio at most one, rounded down and up, in units of 2^-30 (Profile value).
-mod ladder;
+mod by_roots;
 mod rounded;
 
-pub use ladder::Bounds;
+pub use by_roots::Bounds;
 pub use rounded::ONE;
 use rounded::Rounding;
 ghost use mathlib.Core.Path.{_≡_};
@@ -12,14 +12,14 @@ ghost use Rattle.power.specs.Power.{one, lowerOf, upperOf, BoundsMet};
 pub fn lower(n: u32, m: u32, c: u32) -> u64
     ensures { λ r. ⌜ r ≡ lowerOf n m c ⌝ }
 {
-    ladder::bound(Rounding::Down, Rounding::Up, n, m, c)
+    by_roots::bound(Rounding::Down, Rounding::Up, n, m, c)
 }
 
 // The same power rounded up.
 pub fn upper(n: u32, m: u32, c: u32) -> u64
     ensures { λ r. ⌜ r ≡ upperOf n m c ⌝ }
 {
-    ladder::bound(Rounding::Up, Rounding::Down, n, m, c)
+    by_roots::bound(Rounding::Up, Rounding::Down, n, m, c)
 }
 
 // Both, which enclose the exact power.

@@ -42,7 +42,7 @@ fn root_down(r: u64) -> u64
     s
 }
 
-// The root of r, which follows r on the ladder.
+// The root after r, that of r times one.
 pub(crate) fn next_root(way: Rounding, r: u64) -> u64
     requires { ⌜ r ≤ one ⌝ }
     ensures { λ s. ⌜ s ≡ spec.nextRoot way r ⌝ }

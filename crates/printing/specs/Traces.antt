@@ -4,8 +4,8 @@ use mathlib.Core.Path.{_≡_}
 use mathlib.Core.List.{[], _∷_}
 use mir.Syntax.{Fn}
 use Rattle.profile.specs.Limits.{spanMost}
-use Rattle.code.specs.Trace.{trace, calls, returns, parameter, answer, address, content, field, pair}
-use Rattle.code.specs.Files.{standardOutput, slice, buffer, ReadsOnce, HandsOn}
+use Rattle.code.specs.Trace.{trace, calls, returns, parameter, answer, address, content, field}
+use Rattle.code.specs.Files.{standardOutput, pair, slice, buffer, ReadsOnce, HandsOn}
 use Rattle.layout.specs.Accounts.{textMost}
 use Rattle.casefile.specs.Length.{bytesRead}
 

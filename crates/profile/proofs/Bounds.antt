@@ -1,7 +1,7 @@
 -- The range of values and weights over the whole table (Profile value): a value lies between that with no share at the warm end of the
 -- temperatures and that with a whole share at the cold end, since a share is at most one and no line rises. Assumes nothing.
 use mathlib.Core.Path.{_≡_, refl}
-use mathlib.Core.Bool.{Bool, true, false, cond}
+use mathlib.Core.Bool.{true}
 use Prim.Native.Nat.{ℕ, _+_, _-_, _*_, _/_, _^_, _≤_, _<_}
 use native.Mathlib.Nat.{div-le-of-le-mul, div-lt-iff-lt-mul, mul-le-mul, mul-le-mul-left}
 use native.Mathlib.Omega.{arith}
@@ -11,20 +11,23 @@ use lib.Signed.{nonNeg, yes-nonNeg, _≤ℤ_, ≤ℤ-refl}
 use mir.Syntax.{w64}
 use mir.Val.{SFits}
 use Rattle.power.specs.Power.{one, quotient, upward}
+use Rattle.rounding.specs.Integers.{floorℤ}
+use Rattle.rounding.proofs.Parts.{choose, parts, by-parts, less-sum}
+use Rattle.rounding.proofs.Integers.{floor-le}
 use Rattle.profile.specs.Limits.{inRange, coldest, weightLeast, weightMost, profileCount}
 use Rattle.profile.specs.Coefficients.{profileOf}
-use Rattle.profile.specs.Value.{cold, lowPower, highPower, sLow, sHigh, line, linear, valueLow, valueHigh}
-use Rattle.profile.specs.Weight.{floorℤ, factorOf, floorWeight, weightOf, WholeTable}
+use Rattle.profile.specs.Value.{cold, sLow, sHigh, line, linear, valueLow, valueHigh}
+use Rattle.profile.specs.Weight.{factorOf, floorWeight, weightOf, WholeTable}
 use Rattle.profile.specs.declared.Profile.{Profile}
-use Rattle.profile.proofs.Integer.{parts, by-parts, less-sum, le-trans, sum-le, scale-le, fall-le, larger-le, floor-le, natural, at-least, at-most, sfits}
+use Rattle.profile.proofs.Integer.{le-trans, sum-le, scale-le, fall-le, larger-le, natural, at-least, at-most, sfits}
 use Rattle.profile.proofs.Range.{cold-le, le-warm}
 use Rattle.profile.proofs.Tested.{least, most, Tested, profile-tested}
 
 -- ---- a quotient is at most n where its dividend is at most n times the divisor, also rounded up
-down-le : (x d n : ℕ) → x ≤ n * d → x / d ≤ n
+pub down-le : (x d n : ℕ) → x ≤ n * d → x / d ≤ n
 down-le x d n h = div-le-of-le-mul d (omega arith)
 
-up-le : (x d n : ℕ) → 0 < d → x ≤ n * d → upward x d ≤ n
+pub up-le : (x d n : ℕ) → 0 < d → x ≤ n * d → upward x d ≤ n
 unfolding quotient
 up-le x d n p h =
     let below : (x + (d - 1)) / d < n + 1 = div-lt-iff-lt-mul p .1 (omega arith) in
@@ -33,19 +36,13 @@ up-le x d n p h =
 -- ---- a share is at most one
 pub low-share-le : (p : Profile) (t : ℤ) → sLow p t ≤ one
 unfolding one
-low-share-le p t = go (cold p t)
-  where
-    go : (b : Bool) → cond b (2 ^ 60 / (one + highPower p t)) (lowPower p t * one / (one + lowPower p t)) ≤ one
-    go true = down-le (2 ^ 60) (one + highPower p t) one (omega arith)
-    go false = down-le (lowPower p t * one) (one + lowPower p t) one (omega arith)
+low-share-le p t =
+    choose (λ (s : ℕ). s ≤ one) (cold p t) _ _ (λ e. down-le _ _ one (omega arith)) (λ e. down-le _ _ one (omega arith))
 
 pub high-share-le : (p : Profile) (t : ℤ) → sHigh p t ≤ one
 unfolding one
-high-share-le p t = go (cold p t)
-  where
-    go : (b : Bool) → cond b (upward (2 ^ 60) (one + lowPower p t)) (upward (highPower p t * one) (one + highPower p t)) ≤ one
-    go true = up-le (2 ^ 60) (one + lowPower p t) one (omega arith) (omega arith)
-    go false = up-le (highPower p t * one) (one + highPower p t) one (omega arith) (omega arith)
+high-share-le p t =
+    choose (λ (s : ℕ). s ≤ one) (cold p t) _ _ (λ e. up-le _ _ one (omega arith) (omega arith)) (λ e. up-le _ _ one (omega arith) (omega arith))
 
 -- A × 100 × s fits 64 bits, and A × 100 × s / one is at most A × 100
 pub curve-small : (a s : ℕ) → a < 2 ^ 24 → s ≤ 2 ^ 30 → a * 100 * s < 2 ^ 61

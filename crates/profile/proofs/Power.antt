@@ -33,6 +33,9 @@ module _ (p : Profile) (t : ℤ) (r : inRange t ≡ true) where
   pub high-le-one : highPower p t ≤ one
   high-le-one = Laws.high-le-one (ratioN p t) (ratioM p t) (p .c) divisor proper
 
+  pub low-le-high : lowPower p t ≤ highPower p t
+  low-le-high = Laws.low-le-high (ratioN p t) (ratioM p t) (p .c) divisor proper
+
   pub low-is : {n m : ℕ} → n ≡ ratioN p t → m ≡ ratioM p t → lowerOf n m (p .c) ≡ lowPower p t
   low-is e f = rw (e, f) (Laws.lower-of (ratioN p t) (ratioM p t) (p .c) divisor proper)
 

@@ -6,8 +6,9 @@ use native.Mathlib.Omega.{arith}
 use lib.Dec.{T}
 use lib.IntN.{ℤ, pos, natAbs, _-ℤ_}
 use lib.Signed.{leZ, nonNeg, yes-nonNeg, _≤ℤ_}
+use Rattle.rounding.proofs.Parts.{parts, by-parts}
 use Rattle.profile.specs.Limits.{inRange, coldest, warmest}
-use Rattle.profile.proofs.Integer.{parts, by-parts, less-difference, at-least, at-most}
+use Rattle.profile.proofs.Integer.{less-difference, at-least, at-most}
 
 both : (a b : Bool) → a && b ≡ true → (T a) × (T b)
 both true true e = (tt, tt)

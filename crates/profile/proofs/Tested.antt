@@ -8,10 +8,10 @@ use lib.Dec.{T, ltb, eqb, ltb→lt, eqb→eq}
 use lib.IntN.{ℤ, pos, _+ℤ_, _*ℤ_}
 use lib.ListN.{length, getD}
 use lib.Signed.{leZ, _≤ℤ_}
+use Rattle.rounding.specs.Integers.{floorℤ}
 use Rattle.profile.specs.Limits.{coldest, warmest, weightLeast, weightMost, profileCount}
 use Rattle.profile.specs.Coefficients.{table, noProfile, profileOf, sumOf}
 use Rattle.profile.specs.Value.{linear}
-use Rattle.profile.specs.Weight.{floorℤ}
 use Rattle.profile.specs.declared.Profile.{Profile}
 
 -- ---- lists

@@ -73,11 +73,11 @@ lowByRule profile t = ifDone (valueNumber profile t) (valueLow (profileOf profil
 abbrev pub highByRule : ℕ → ℤ → ℤ
 highByRule profile t = ifDone (valueNumber profile t) (valueHigh (profileOf profile) t) (pos 0)
 
-pub record ValueMet (profile : ℕ) (t : ℤ) (r : ValueAnswer) : Type 0 where
-  pub answers : valueAnswered r ≡ valueNumber profile t
-  pub places : valuePlaced r ≡ 0
-  pub low : lowGiven r ≡ lowByRule profile t
-  pub high : highGiven r ≡ highByRule profile t
+pub record ValueMet (profile : ℕ) (t : ℤ) (answered placed : ℕ) (lowest highest : ℤ) : Type 0 where
+  pub answers : answered ≡ valueNumber profile t
+  pub places : placed ≡ 0
+  pub low : lowest ≡ lowByRule profile t
+  pub high : highest ≡ highByRule profile t
   pub powers-enclose : valueNumber profile t ≡ 0 → EnclosedPower (profileOf profile) t
 
 -- ---- day weight
@@ -107,10 +107,10 @@ weightGiven Weighed.NoProfile = 0
 weightGiven Weighed.NoWeekday = 0
 weightGiven (Weighed.OutOfRange k) = 0
 
-pub record WeightMet (profile weekday : ℕ) (t : ℤ) (r : WeightAnswer) : Type 0 where
-  pub answers : weightAnswered r ≡ weightNumber profile weekday t
-  pub places : weightPlaced r ≡ 0
-  pub gives : weightGiven r ≡ ifDone (weightNumber profile weekday t) (weightOf profile weekday t) 0
-  pub floored : weightNumber profile weekday t ≡ 0 → floorWeight profile weekday t ≡ pos (weightGiven r)
-  pub least : weightNumber profile weekday t ≡ 0 → weightLeast ≤ weightGiven r
-  pub most : weightNumber profile weekday t ≡ 0 → weightGiven r ≤ weightMost
+pub record WeightMet (profile weekday : ℕ) (t : ℤ) (answered placed given : ℕ) : Type 0 where
+  pub answers : answered ≡ weightNumber profile weekday t
+  pub places : placed ≡ 0
+  pub gives : given ≡ ifDone (weightNumber profile weekday t) (weightOf profile weekday t) 0
+  pub floored : weightNumber profile weekday t ≡ 0 → floorWeight profile weekday t ≡ pos given
+  pub least : weightNumber profile weekday t ≡ 0 → weightLeast ≤ given
+  pub most : weightNumber profile weekday t ≡ 0 → given ≤ weightMost

@@ -1,10 +1,10 @@
 -- The profile value, or h value (Profile value): "Written for temperature t in hundredths." Each definition below has its sentence of that section above it.
 use mathlib.Core.Path.{_≡_}
-use mathlib.Core.Bool.{Bool, true, cond}
+use mathlib.Core.Bool.{Bool, true, false, cond}
 use Prim.Native.Nat.{ℕ, _+_, _*_, _/_, _^_, _≤_, _<_}
 use lib.Dec.{leb}
 use lib.IntN.{ℤ, pos, natAbs, _+ℤ_, _-ℤ_, _*ℤ_}
-use lib.Signed.{leZ}
+use lib.Signed.{leZ, _≤ℤ_}
 use Rattle.profile.specs.declared.Profile.{Profile}
 use Rattle.power.specs.Power.{one, upward, pLow, pHigh, Encloses}
 use Rattle.profile.specs.Limits.{inRange}
@@ -71,3 +71,18 @@ EnclosedPower p t = Encloses (ratioN p t) (ratioM p t) (p .c) (lowPower p t) (hi
 -- no ratio is above one, and the powers enclose, whatever eight coefficients a profile has (proofs/Power, `any-profile`)
 abbrev pub AnyProfile : Type 0
 AnyProfile = (p : Profile) (t : ℤ) → inRange t ≡ true → (0 < ratioM p t) × (ratioN p t ≤ ratioM p t) × EnclosedPower p t
+
+-- the share of a power y / d, 1 / (1 + power) cold and power / (1 + power) warm, lies between sLow and sHigh (in units of 2^-30, over whole numbers)
+pub record SharesEnclosed (p : Profile) (t : ℤ) (y d : ℕ) : Type 0 where
+  pub cold-low : cold p t ≡ true → sLow p t * (one * d + y) ≤ 2 ^ 60 * d
+  pub cold-high : cold p t ≡ true → 2 ^ 60 * d ≤ sHigh p t * (one * d + y)
+  pub warm-low : cold p t ≡ false → sLow p t * (one * d + y) ≤ y * one
+  pub warm-high : cold p t ≡ false → y * one ≤ sHigh p t * (one * d + y)
+
+-- for every power between the two that the rules give, whatever profile (proofs/Enclosed, `shares-enclose`)
+abbrev pub SharesEnclose : Type 0
+SharesEnclose = (p : Profile) (t : ℤ) (y d : ℕ) → lowPower p t * d ≤ y → y ≤ highPower p t * d → SharesEnclosed p t y d
+
+-- the low value is at most the high value, whatever profile (proofs/Enclosed, `values-in-order`)
+abbrev pub ValuesInOrder : Type 0
+ValuesInOrder = (p : Profile) (t : ℤ) → inRange t ≡ true → valueLow p t ≤ℤ valueHigh p t

@@ -1,27 +1,13 @@
 -- The weight of a day (Profile value): "A day's weight, in millionths, is floor(low value × F / 10^7)."
 use mathlib.Core.Path.{_≡_}
 use mathlib.Core.Bool.{true}
-use Prim.Native.Nat.{ℕ, _/_, _≤_, _<_}
-use lib.IntN.{ℤ, pos, negsuc, natAbs, _+ℤ_, _*ℤ_}
+use Prim.Native.Nat.{ℕ, _≤_, _<_}
+use lib.IntN.{ℤ, pos, natAbs, _*ℤ_}
 use lib.ListN.{getD}
+use Rattle.rounding.specs.Integers.{floorℤ}
 use Rattle.profile.specs.Limits.{inRange, profileCount, weightLeast, weightMost}
 use Rattle.profile.specs.Coefficients.{profileOf}
 use Rattle.profile.specs.Value.{valueLow}
-
--- a quotient rounded downwards, of a negative number too
-abbrev pub floorℤ : ℤ → ℕ → ℤ
-floorℤ (pos n) d = pos (n / d)
-floorℤ (negsuc n) d = negsuc (n / d)
-
--- q times d and a rest below d
-pub record IsFloor (x : ℤ) (d : ℕ) (q : ℤ) : Type 0 where
-  pub rest : ℕ
-  pub small : rest < d
-  pub adds-up : x ≡ q *ℤ pos d +ℤ pos rest
-
--- where d is above 0 there is one such q, `floorℤ x d` (proofs/Integer, `one-floor`)
-abbrev pub OneFloor : Type 0
-OneFloor = (x : ℤ) (d : ℕ) → 0 < d → IsFloor x d (floorℤ x d) × ((q : ℤ) → IsFloor x d q → q ≡ floorℤ x d)
 
 -- the factor F of a profile's weekday, Monday 0 to Sunday 6
 abbrev pub factorOf : ℕ → ℕ → ℕ

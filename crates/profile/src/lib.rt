@@ -4,7 +4,7 @@ mod table;
 
 ghost use mathlib.Core.Path.{_≡_};
 ghost use Rattle.profile.specs.Limits.{inRange};
-ghost use Rattle.profile.specs.Answers.{ByNumberMet, LimitsMet, WeightLimitsMet, ValueMet, WeightMet};
+ghost use Rattle.profile.specs.Answers.{ByNumberMet, LimitsMet, WeightLimitsMet, valueAnswered, valuePlaced, lowGiven, highGiven, ValueMet, weightAnswered, weightPlaced, weightGiven, WeightMet};
 
 // One profile, a standard load profile SigLinDe: coefficients in ten-millionths, weekday factors in ten-thousandths, Monday first.
 pub struct Profile {
@@ -96,7 +96,7 @@ pub fn in_range(t: i16) -> bool
 
 // The profile value at a temperature, low and high.
 pub fn value(profile: u8, t: i16) -> ValueAnswer
-    ensures { λ r. ⌜ ValueMet profile t r ⌝ }
+    ensures { λ r. ⌜ ValueMet profile t (valueAnswered r) (valuePlaced r) (lowGiven r) (highGiven r) ⌝ }
 {
     if Profile::COUNT <= profile {
         return ValueAnswer::NoProfile;
@@ -113,7 +113,7 @@ pub fn value(profile: u8, t: i16) -> ValueAnswer
 
 // The weight of one day.
 pub fn day_weight(profile: u8, weekday: u8, t: i16) -> WeightAnswer
-    ensures { λ r. ⌜ WeightMet profile weekday t r ⌝ }
+    ensures { λ r. ⌜ WeightMet profile weekday t (weightAnswered r) (weightPlaced r) (weightGiven r) ⌝ }
 {
     if Profile::COUNT <= profile {
         return WeightAnswer::NoProfile;

@@ -6,7 +6,6 @@ use mathlib.Core.List.{List, [], _∷_, _++_, append-assoc}
 use native.Mathlib.Omega.{arith}
 use lib.ListN.{length-replicate}
 use Rattle.account.specs.Account.{Account}
-use Rattle.account.specs.declared.Answer.the-variants.{Done}
 use Rattle.account.specs.Calls.{OpenMet}
 use Rattle.history.specs.Run.{Event, Step, Run}
 use Rattle.history.specs.Run as run
@@ -38,11 +37,11 @@ module _ (s : List ℕ) (e : faultOf s ≡ noFault) where
       let done = case-taken s e .2 i (omega arith) in
       one-more (emptyCase s) (withCuts s i) (cutCalls s i) _ (cuts-lead i (omega arith)) (record { answers = sym done; leaves = rw done refl })
 
-  opened : OpenMet (emptyCase s) Done (emptyCase s)
+  opened : OpenMet (emptyCase s) 0 (emptyCase s)
   opened =
       let done = case-taken s e .0 in
       record { answers = sym done; leaves = rw (done, length-replicate) refl }
 
 pub file-demand3 : FileDemand3
-file-demand3 s e lent answer left out met =
-    demand3 (emptyCase s) (emptyCase s) Done (opened s e) refl _ (cuts-lead s e (cutsLength s) (omega arith) (run.statement lent answer left out ∷ []) (met, tt))
+file-demand3 s e lent r m left out met =
+    demand3 (emptyCase s) (emptyCase s) (opened s e) _ (cuts-lead s e (cutsLength s) (omega arith) (run.statement lent r m left out ∷ []) (met, tt))

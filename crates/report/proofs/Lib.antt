@@ -1,4 +1,4 @@
--- The laws that the proofs of crate report share, and its theorems.
+-- The laws that the proofs of crate report share, and its theorems (Case file).
 mod Taken
 pub mod Fits
 pub mod Full

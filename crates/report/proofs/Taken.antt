@@ -18,7 +18,6 @@ use Rattle.casefile.specs.Bytes.{signed16}
 use Rattle.casefile.specs.Faults.{Fault, noFault, refused, fault, _before_, firstFault, early, failsToRise, meanFault, readingFault, cutFault, faultOf, headFault, meansFault, readingsFault}
 use Rattle.profile.specs.Rows.{filled}
 use Rattle.casefile.specs.Reader.{faultNumber, faultPlace, unfitSlices, verdict, full, ReadMet}
-use Rattle.casefile.specs.declared.CaseAnswer.the-variants.{Days, Refused}
 use Rattle.casefile.proofs.Kept.{Kept, cuts-kept}
 use Rattle.casefile.proofs.Sound.{days-kept, case-sound}
 use Rattle.layout.specs.Accounts.{accountText}
@@ -105,14 +104,14 @@ module _ (s : List ℕ) (lent : Account) (accepted : faultNumber (verdict s lent
       let bad : unfit (accountOf s) ≡ true = rw none-is refl in
       clash bad (case-sound s (file-numbered s .none-if clean) .0)
 
-module _ (s : List ℕ) (lent : Account) (number place : ℕ) (after : Account) (met : ReadMet s lent (Refused number place) after s) where
+module _ (s : List ℕ) (lent : Account) (number place : ℕ) (after : Account) (met : ReadMet s lent number place 0 after s) where
   pub refused-says : caseText s lent ≡ refusalText number place
   refused-says =
       let declined : faultNumber (verdict s lent) ≡ 0 → ⊥ = λ e. some-days s lent e (sym (met .gives ∙ rw e refl)) in
       let says : caseText s lent ≡ refusalText (faultNumber (verdict s lent)) (faultPlace (verdict s lent)) = simp (ne-eqb (faultNumber (verdict s lent)) 0 declined) in
       says ∙ sym (ap₂ refusalText (met .answers) (met .places))
 
-module _ (s : List ℕ) (lent : Account) (n : ℕ) (after : Account) (met : ReadMet s lent (Days n) after s) where
+module _ (s : List ℕ) (lent : Account) (n : ℕ) (after : Account) (met : ReadMet s lent 0 0 n after s) where
   accepted : faultNumber (verdict s lent) ≡ 0
   accepted = sym (met .answers)
 

@@ -3,8 +3,6 @@ use Prim.Native.Nat.{ℕ, zero, suc}
 use mathlib.Core.Path.{_≡_}
 use mathlib.Core.List.{List, [], _∷_, _++_}
 use Rattle.account.specs.Account.{Account}
-use Rattle.account.specs.declared.Answer.the-variants.{Done}
-use Rattle.statement.specs.declared.StatementAnswer.{StatementAnswer}
 use Rattle.statement.specs.Parts.{Outputs}
 use Rattle.statement.specs.Call.{StatementMet}
 use Rattle.history.specs.Run.{Event}
@@ -16,15 +14,15 @@ use Rattle.casefile.specs.Faults.{noFault, faultOf}
 -- the first i readings, and after all of them the first i cuts, each with the account that it leaves
 unfoldable pub readingCalls : List ℕ → ℕ → List Event
 readingCalls s zero = []
-readingCalls s (suc i) = readingCalls s i ++ (run.reading (readingBoundary s i) (readingCount s i) Done (withReadings s (suc i)) ∷ [])
+readingCalls s (suc i) = readingCalls s i ++ (run.reading (readingBoundary s i) (readingCount s i) 0 (withReadings s (suc i)) ∷ [])
 
 unfoldable pub cutCalls : List ℕ → ℕ → List Event
 cutCalls s zero = readingCalls s (readingsLength s)
-cutCalls s (suc i) = cutCalls s i ++ (run.cut (cutBoundary s i) Done (withCuts s (suc i)) ∷ [])
+cutCalls s (suc i) = cutCalls s i ++ (run.cut (cutBoundary s i) 0 (withCuts s (suc i)) ∷ [])
 
 -- the statement of a file that the reader takes is one of demand 3, over the file's own calls (proofs/Calls, `file-demand3`)
 abbrev pub FileDemand3 : Type 0
 FileDemand3 =
     (s : List ℕ) → faultOf s ≡ noFault →
-    (lent : Outputs) (answer : StatementAnswer) (left : Account) (out : Outputs) → StatementMet (accountOf s) lent answer left out →
-    Demand3 (emptyCase s .weights) (cutCalls s (cutsLength s) ++ (run.statement lent answer left out ∷ []))
+    (lent : Outputs) (r m : ℕ) (left : Account) (out : Outputs) → StatementMet (accountOf s) lent r m left out →
+    Demand3 (emptyCase s .weights) (cutCalls s (cutsLength s) ++ (run.statement lent r m left out ∷ []))

@@ -34,9 +34,10 @@ nearest-zero x = div-zero (2 * x + 0)
 pub nearest-multiple : (q d : ℕ) → 0 < d → nearest (q * d) d ≡ q
 nearest-multiple q d h = sym (nearest-only (q * d) d q h (record { not-above = omega arith; not-below = omega arith }))
 
+pub quotient-le : (x y d : ℕ) → 0 < d → x ≤ y → x / d ≤ y / d
+quotient-le x y d p h = le-div-iff-mul-le p .1 (omega (arith, div-mul-le-self x d))
+
 pub nearest-mono : (x y d : ℕ) → x ≤ y → nearest x d ≤ nearest y d
 unfolding nearest
 nearest-mono x y zero h = omega (arith, nearest-zero x, nearest-zero y)
-nearest-mono x y (suc d) h =
-    let pos : 0 < 2 * suc d = omega arith in
-    le-div-iff-mul-le pos .1 (omega (arith, div-mul-le-self (2 * x + suc d) (2 * suc d)))
+nearest-mono x y (suc d) h = quotient-le (2 * x + suc d) (2 * y + suc d) (2 * suc d) (omega arith) (omega arith)

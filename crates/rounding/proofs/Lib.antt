@@ -1,2 +1,4 @@
--- The laws that the proofs of crate rounding share, and its theorems.
+-- The laws that the proofs of crate rounding share, and its theorems (the paper's first paragraph).
 pub mod Laws
+pub mod Parts
+pub mod Integers

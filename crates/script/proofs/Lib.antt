@@ -1,4 +1,4 @@
--- The laws that the proofs of crate script share, and its theorems.
+-- The laws that the proofs of crate script share, and its theorems (docs/GUIDE.md, The console).
 pub mod Split
 pub mod Input
 mod Digits

@@ -95,10 +95,10 @@ words-later s end e = rw e (ap (λ (ws : List (List ℕ)). drop 1 ws) (words-fir
 
 -- a test of each word left
 module _ (test : List ℕ → Bool) (s : List ℕ) (at : ℕ) where
-  pub every-next : (end : ℕ) → at < length s → end ≡ next 32 s (at + 1) →
-      every test (wordsLeft (drop at s)) ≡ test (between s at end) && every test (wordsLeft (drop end s))
+  pub every-next : (end : ℕ) → at < length s → end ≡ next 32 s (at + 1) → (holds : Bool) → test (between s at end) ≡ holds →
+      every test (wordsLeft (drop at s)) ≡ holds && every test (wordsLeft (drop end s))
   unfolding every
-  every-next end h e = ap (every test) (words-next s at end h e)
+  every-next end h e holds is = ap (every test) (words-next s at end h e) ∙ simp is
 
   pub every-end : length s ≤ at → every test (wordsLeft (drop at s)) ≡ true
   unfolding every

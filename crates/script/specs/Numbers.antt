@@ -12,6 +12,8 @@ use Rattle.script.specs.declared.Decimal.{Decimal}
 use Rattle.script.specs.declared.Decimal.the-variants.{Number, NoNumber}
 use Rattle.script.specs.declared.Hundredths.{Hundredths}
 use Rattle.script.specs.declared.Hundredths.the-variants.{Mean, NoMean}
+use Rattle.script.specs.declared.lists.Kind.{Kind}
+use Rattle.script.specs.declared.lists.Kind.the-variants.{Weights, Means}
 
 abbrev pub isDigit : ℕ → Bool
 isDigit x = leb 48 x && leb x 57
@@ -52,6 +54,11 @@ most32 = 4_294_967_295
 
 abbrev pub most64 : ℕ
 most64 = 18_446_744_073_709_551_615
+
+-- a word of a list of this kind: a weight of 32 bits, or a mean
+abbrev pub isOf : Kind → List ℕ → Bool
+isOf Weights = isNumber most32
+isOf Means = isMean
 
 module _ {A : Type 0} where
   -- what the words before the first that fails a test stand for

@@ -3,6 +3,7 @@ use crate::Call;
 use crate::Command;
 use crate::Decimal;
 use crate::lists;
+use crate::lists::Kind;
 use crate::number;
 use crate::words::next;
 use crate::words::same;
@@ -20,7 +21,7 @@ pub(crate) fn named(name: &[u8], line: &[u8], end: usize) -> Command
     ensures { λ r. ⌜ r ≡ named (now (name .entry)) (wordsLeft (drop end (now (line .entry)))) ⌝ }
 {
     if same(name, b"weights") {
-        if lists::all_weights(line, end) {
+        if lists::all_of(Kind::Weights, line, end) {
             return Command::Weights;
         }
         return Command::Unknown;
@@ -84,7 +85,7 @@ fn weekday_and_means(profile: u8, line: &[u8], end: usize) -> Command
     let Decimal::Number(weekday) = number(&line[end + 1..last], MOST_8) else {
         return Command::Unknown;
     };
-    if lists::all_means(line, last) {
+    if lists::all_of(Kind::Means, line, last) {
         return Command::Days(profile, weekday as u8);
     }
     Command::Unknown

@@ -7,36 +7,37 @@ use crate::words::next;
 ghost use mathlib.Core.Path.{_≡_};
 ghost use lib.ListN.{drop};
 ghost use Rattle.script.specs.Words.{wordsLeft, every};
-ghost use Rattle.script.specs.Numbers.{isNumber, value, isMean, hundredths, leading, Listed, most32};
+ghost use Rattle.script.specs.Numbers.{isNumber, value, isMean, isOf, hundredths, leading, Listed, most32};
 
 // The largest weight of 32 bits.
 const MOST_32: u64 = 4_294_967_295;
 
-// Each word from the end of a word on is a weight.
-pub(crate) fn all_weights(line: &[u8], end: usize) -> bool
-    ensures { λ r. ⌜ r ≡ every (isNumber most32) (wordsLeft (drop end (now (line .entry)))) ⌝ }
-{
-    let mut at = end;
-    while at < line.len() {
-        let end = next(line, at + 1, b' ');
-        let Decimal::Number(_) = number(&line[at + 1..end], MOST_32) else {
-            return false;
-        };
-        at = end;
-    }
-    true
+// What the words of a list are to be.
+pub(crate) enum Kind {
+    Weights,
+    Means,
 }
 
-// Each word from the end of a word on is a mean.
-pub(crate) fn all_means(line: &[u8], end: usize) -> bool
-    ensures { λ r. ⌜ r ≡ every isMean (wordsLeft (drop end (now (line .entry)))) ⌝ }
+// Each word from the end of a word on is of the kind.
+pub(crate) fn all_of(kind: Kind, line: &[u8], end: usize) -> bool
+    ensures { λ r. ⌜ r ≡ every (isOf kind) (wordsLeft (drop end (now (line .entry)))) ⌝ }
 {
     let mut at = end;
     while at < line.len() {
         let end = next(line, at + 1, b' ');
-        let Hundredths::Mean(_) = mean(&line[at + 1..end]) else {
-            return false;
-        };
+        let word = &line[at + 1..end];
+        match kind {
+            Kind::Weights => {
+                let Decimal::Number(_) = number(word, MOST_32) else {
+                    return false;
+                };
+            }
+            Kind::Means => {
+                let Hundredths::Mean(_) = mean(word) else {
+                    return false;
+                };
+            }
+        }
         at = end;
     }
     true

@@ -1,4 +1,4 @@
--- The laws that the proofs of crate session share, and its theorems.
+-- The laws that the proofs of crate session share, and its theorems (docs/GUIDE.md, The console).
 mod Parts
 mod Opening
 mod Stepping

@@ -45,7 +45,7 @@ too-short ws b h = simp (lt-ltb (length (b .weights)) (length ws) h)
 module _ (ws : List ℕ) (b : Account) (n m c : ℕ) (marks counts : List ℕ) (answer : Answer) (nIs : length ws ≡ n)
     (mIs : m ≡ min (n + 1) (length (b .marks))) (cIs : c ≡ min (n + 1) (length (b .counts)))
     (room : n ≤ length (b .weights)) (long : length marks ≡ length (take m (b .marks))) (longer : length counts ≡ length (take c (b .counts)))
-    (met : OpenMet (account ws (take m (b .marks)) (take c (b .counts))) answer (account ws marks counts)) where
+    (met : OpenMet (account ws (take m (b .marks)) (take c (b .counts))) (number answer) (account ws marks counts)) where
   abbrev taken : Account
   taken = account ws (take m (b .marks)) (take c (b .counts))
 

@@ -9,7 +9,7 @@ use lib.ListN.{length, getD, set, take, drop}
 use lib.Seq.{take-all, take-length, length-take-le, take-suc, drop-cons, set-at}
 use Rattle.account.specs.Account.{Account, account}
 use Rattle.script.specs.declared.Call.{Call}
-use Rattle.session.specs.Calls.{callNumber, after, CallMet, ChangeMet}
+use Rattle.session.specs.Calls.{callNumber, after, CalledMet, ChangeMet}
 use Rattle.session.specs.Buffers.{held, over, laid}
 
 -- as much of a buffer as there is
@@ -47,7 +47,7 @@ copied f w i h g =
 pub changed : (days : ℕ) (call : Call) (b : Account) (n m c number : ℕ) (marks counts : List ℕ) →
     n ≡ min days (length (b .weights)) → m ≡ min (days + 1) (length (b .marks)) → c ≡ min (days + 1) (length (b .counts)) →
     length marks ≡ length (take m (b .marks)) → length counts ≡ length (take c (b .counts)) →
-    CallMet call (account (take n (b .weights)) (take m (b .marks)) (take c (b .counts))) number (account (take n (b .weights)) marks counts) →
+    CalledMet call (account (take n (b .weights)) (take m (b .marks)) (take c (b .counts))) number (account (take n (b .weights)) marks counts) →
     ChangeMet days call b number (account (b .weights) (marks ++ drop m (b .marks)) (counts ++ drop c (b .counts)))
 changed days call b n m c number marks counts nIs mIs cIs long longer met =
     let same : account (take n (b .weights)) (take m (b .marks)) (take c (b .counts)) ≡ held days b =

@@ -7,7 +7,7 @@ use lib.ListN.{length, take, replicate}
 use Rattle.account.specs.Account.{Account, account}
 use Rattle.profile.specs.Rows.{row, ifDone}
 use Rattle.account.specs.Refusals.{openNumber, readingNumber, withdrawNumber, cutNumber, uncutNumber}
-use Rattle.account.specs.Calls.{cleared, readingPut, readingTaken, cutPut, cutTaken}
+use Rattle.account.specs.Calls.{cleared, readingPut, readingTaken, cutPut, cutTaken, CallMet}
 use Rattle.weights.specs.Weights.{Ruling, ruling}
 use Rattle.script.specs.Calls.{weightsIn, meansIn}
 use Rattle.script.specs.declared.Call.{Call}
@@ -32,9 +32,8 @@ abbrev pub after : Account → Call → Account
 after a c = ifDone (callNumber a c) (called a c) a
 
 -- on an account itself, and on the account of n days that the buffers hold
-pub record CallMet (c : Call) (before : Account) (number : ℕ) (then : Account) : Type 0 where
-  pub answers : number ≡ callNumber before c
-  pub leaves : then ≡ after before c
+abbrev pub CalledMet : (c : Call) (before : Account) (answered : ℕ) (then : Account) → Type 0
+CalledMet c before = CallMet (callNumber before c) (called before c) before
 
 pub record ChangeMet (n : ℕ) (c : Call) (before : Account) (number : ℕ) (then : Account) : Type 0 where
   pub answers : number ≡ callNumber (held n before) c

@@ -22,7 +22,7 @@ ghost use Rattle.account.specs.Account.{accountIn};
 ghost use Rattle.layout.specs.Text.{LaidOut};
 ghost use Rattle.layout.specs.Accounts.{accountText};
 ghost use Rattle.session.specs.Buffers.{held};
-ghost use Rattle.session.specs.Calls.{CallMet, ChangeMet, OpenedMet, weightsOffer, daysOffer};
+ghost use Rattle.session.specs.Calls.{CalledMet, ChangeMet, OpenedMet, weightsOffer, daysOffer};
 ghost use Rattle.session.specs.Lines.{answerText, session, StepMet};
 ghost use Rattle.session.specs.Transcript.{RunMet, oneMore};
 
@@ -168,7 +168,7 @@ fn change(call: Call, days: usize, weights: &[u32], marks: &mut [u8], counts: &m
 
 // The same on an account itself.
 fn on_account(call: Call, weights: &[u32], marks: &mut [u8], counts: &mut [u64]) -> u8
-    ensures { λ r. ⌜ CallMet call (accountIn (weights .entry) (marks .entry) (counts .entry)) r (accountIn (weights .exit) (marks .exit) (counts .exit)) ⌝ }
+    ensures { λ r. ⌜ CalledMet call (accountIn (weights .entry) (marks .entry) (counts .entry)) r (accountIn (weights .exit) (marks .exit) (counts .exit)) ⌝ }
 {
     match call {
         Call::Reading(k, count) => number_of(account::reading(weights, marks, counts, k, count)),

@@ -13,7 +13,6 @@ use Rattle.account.specs.Slices.{Checked, readsAt}
 use Rattle.profile.specs.Rows.{row}
 use Rattle.account.specs.Refusals.{accountRows}
 use Rattle.account.proofs.Rows as rows
-use Rattle.statement.specs.declared.StatementAnswer.the-variants.{Parts, Unfit, Unsound, TooFewReadings}
 use Rattle.statement.specs.Parts.{Outputs}
 use Rattle.statement.specs.Call.{StatementMet, unfitOutputs, zeroed}
 use Rattle.statement.specs.Progress.{Fillable, Filled}
@@ -43,34 +42,34 @@ long-fit : (n : ℕ) (o : Outputs) → Long n o → unfitOutputs n o ≡ false
 long-fit n o l = rw (eq-eqb _ _ (l .from), eq-eqb _ _ (l .to), eq-eqb _ _ (l .wh))
 
 module _ (a : Account) (o : Outputs) where
-  met-unfit : (unfit a || unfitOutputs (days a) o) ≡ true → StatementMet a o Unfit a o
+  met-unfit : (unfit a || unfitOutputs (days a) o) ≡ true → StatementMet a o 3 0 a o
   met-unfit h = record { answers = rw h; gives = rw h; stays = refl; writes = rw h }
 
-  pub met-from : (length (o .from) ≡ days a → ⊥) → StatementMet a o Unfit a o
+  pub met-from : (length (o .from) ≡ days a → ⊥) → StatementMet a o 3 0 a o
   met-from h = met-unfit (rw (ne-eqb _ _ h) (or-true (unfit a)))
 
-  pub met-to : length (o .from) ≡ days a → (length (o .to) ≡ days a → ⊥) → StatementMet a o Unfit a o
+  pub met-to : length (o .from) ≡ days a → (length (o .to) ≡ days a → ⊥) → StatementMet a o 3 0 a o
   met-to f h = met-unfit (rw (eq-eqb _ _ f, ne-eqb _ _ h) (or-true (unfit a)))
 
-  pub met-wh : length (o .from) ≡ days a → length (o .to) ≡ days a → (length (o .wh) ≡ days a → ⊥) → StatementMet a o Unfit a o
+  pub met-wh : length (o .from) ≡ days a → length (o .to) ≡ days a → (length (o .wh) ≡ days a → ⊥) → StatementMet a o 3 0 a o
   met-wh f t h = met-unfit (rw (eq-eqb _ _ f, eq-eqb _ _ t, ne-eqb _ _ h) (or-true (unfit a)))
 
-  pub met-account : (r : ℕ) → r ≡ accountRows a 0 → r ≡ 3 → StatementMet a o Unfit a o
+  pub met-account : (r : ℕ) → r ≡ accountRows a 0 → r ≡ 3 → StatementMet a o 3 0 a o
   met-account r is three = met-unfit (rw (unfit-by (unfit a) (sound a) (sym is ∙ three)))
 
-  pub met-unsound : (r : ℕ) → Long (days a) o → r ≡ accountRows a 0 → (r ≡ 3 → ⊥) → (r ≡ 0 → ⊥) → StatementMet a o Unsound a o
+  pub met-unsound : (r : ℕ) → Long (days a) o → r ≡ accountRows a 0 → (r ≡ 3 → ⊥) → (r ≡ 0 → ⊥) → StatementMet a o 5 0 a o
   met-unsound r l is not-three not-zero =
       let b = unsound-by (unfit a) (sound a) (λ h. not-three (is ∙ h)) (λ h. not-zero (is ∙ h)) in
       let f = long-fit (days a) o l in
       record { answers = rw (b .0, f, b .1); gives = rw (b .0, f, b .1); stays = refl; writes = rw (b .0, f, b .1) }
 
-  pub met-few : Long (days a) o → Checked a → howMany (shown a .readings .at) (suc (days a)) < 2 → (o′ : Outputs) → o′ ≡ zeroed o → StatementMet a o TooFewReadings a o′
+  pub met-few : Long (days a) o → Checked a → howMany (shown a .readings .at) (suc (days a)) < 2 → (o′ : Outputs) → o′ ≡ zeroed o → StatementMet a o 11 0 a o′
   met-few l c few o′ clear =
       let f = long-fit (days a) o l in
       let less = lt-ltb _ _ few in
       record { answers = rw (c .fits, f, c .sound, less); gives = rw (c .fits, f, c .sound, less); stays = refl; writes = rw (c .fits, f, c .sound, less) clear }
 
-  pub met-parts : Long (days a) o → Checked a → 2 ≤ howMany (shown a .readings .at) (suc (days a)) → (o′ : Outputs) (r : ℕ) → Filled a o′ r → StatementMet a o (Parts r) a o′
+  pub met-parts : Long (days a) o → Checked a → 2 ≤ howMany (shown a .readings .at) (suc (days a)) → (o′ : Outputs) (r : ℕ) → Filled a o′ r → StatementMet a o 0 r a o′
   met-parts l c some o′ r h =
       let f = long-fit (days a) o l in
       let more = le-ltb _ _ some in

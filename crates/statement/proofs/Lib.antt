@@ -1,4 +1,4 @@
--- The laws that the proofs of crate statement share, and its theorems.
+-- The laws that the proofs of crate statement share, and its theorems (Account and its calls).
 pub mod Order
 pub mod Sums
 pub mod Has

@@ -61,9 +61,9 @@ module _ (w : List ℕ) (s : Stands) (read : Read (length w) (s .readings)) wher
       unfolding last
       start m same = rw (← same) (rw (before (suc a) (omega arith), mark-a) (omega arith))
 
-      climb : (m : ℕ) → a < m → m ≤ b → Adds w s a b m → Adds w s a b (suc m)
+      step : (m : ℕ) → a < m → m ≤ b → Adds w s a b m → Adds w s a b (suc m)
       unfolding last
-      climb m lo hi rest = go (marked s m) refl
+      step m lo hi rest = go (marked s m) refl
         where
           go : (t : Bool) → marked s m ≡ t → Adds w s a b (suc m)
           go true e =
@@ -75,7 +75,7 @@ module _ (w : List ℕ) (s : Stands) (read : Read (length w) (s .readings)) wher
       within : (m : ℕ) → a ≤ m → m ≤ b → Adds w s a b (suc m)
       within zero lo hi = start zero (omega arith)
       within (suc m) lo hi =
-          ⊎-elim (start (suc m)) (λ lt. climb (suc m) lt hi (within m (omega arith) (omega arith))) (eq-or-lt-of-le lo)
+          ⊎-elim (start (suc m)) (λ lt. step (suc m) lt hi (within m (omega arith) (omega arith))) (eq-or-lt-of-le lo)
 
       pub telescopes : energyOf a b (parts w s) + has w (s .readings) a ≡ has w (s .readings) b
       unfolding last

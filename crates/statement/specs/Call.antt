@@ -48,8 +48,8 @@ zeroed o = outputs (zeros (o .from)) (zeros (o .to)) (zeros (o .wh))
 abbrev pub outputsAfter : ℕ → Outputs → Outputs → Outputs
 outputsAfter answered done before = ifDone answered done (cond (eqb answered 11) (zeroed before) before)
 
-pub record StatementMet (before : Account) (lent : Outputs) (answer : StatementAnswer) (after : Account) (out : Outputs) : Type 0 where
-  pub answers : number answer ≡ statementNumber before lent
-  pub gives : partCount answer ≡ ifDone (statementNumber before lent) (length (parts (before .weights) (shown before))) 0
+pub record StatementMet (before : Account) (lent : Outputs) (answered given : ℕ) (after : Account) (out : Outputs) : Type 0 where
+  pub answers : answered ≡ statementNumber before lent
+  pub gives : given ≡ ifDone (statementNumber before lent) (length (parts (before .weights) (shown before))) 0
   pub stays : after ≡ before
   pub writes : out ≡ outputsAfter (statementNumber before lent) (statementOf (before .weights) (shown before)) lent

@@ -11,7 +11,7 @@ ghost use Prim.Native.Nat.{_+_};
 ghost use Rattle.account.specs.Account.{accountIn, shown};
 ghost use Rattle.statement.specs.Split.{weightSum, shareOf};
 ghost use Rattle.statement.specs.Parts.{outputsIn};
-ghost use Rattle.statement.specs.Call.{StatementMet};
+ghost use Rattle.statement.specs.Call.{number, partCount, StatementMet};
 ghost use Rattle.statement.specs.Progress.{Summable, Splittable, Addable, withPart, nextPart, Interval, Written, Fillable, Filled};
 
 // What a statement answers: the number of its parts, or a row of the table.
@@ -38,7 +38,7 @@ pub fn statement(
     to: &mut [u16],
     wh: &mut [u64],
 ) -> StatementAnswer
-    ensures { λ r. ⌜ StatementMet (accountIn (weights .entry) (marks .entry) (counts .entry)) (outputsIn (from .entry) (to .entry) (wh .entry)) r (accountIn (weights .exit) (marks .exit) (counts .exit)) (outputsIn (from .exit) (to .exit) (wh .exit)) ⌝ }
+    ensures { λ r. ⌜ StatementMet (accountIn (weights .entry) (marks .entry) (counts .entry)) (outputsIn (from .entry) (to .entry) (wh .entry)) (number r) (partCount r) (accountIn (weights .exit) (marks .exit) (counts .exit)) (outputsIn (from .exit) (to .exit) (wh .exit)) ⌝ }
 {
     let n = weights.len();
     if from.len() != n {

@@ -1,4 +1,3 @@
--- The theorems of crate vectors: the two roundings, the starred cases, and the value near 1.
-pub mod Rounded
+-- The theorems of crate vectors (Starred cases): the starred cases, and the value near 1.
 pub mod Starred
 pub mod Near

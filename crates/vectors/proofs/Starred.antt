@@ -1,4 +1,4 @@
--- The starred cases, one fact about the rules: each answer is computed, but for the powers, where N and the exponent are any numbers, and
+-- The starred cases (Buyer's note), one fact about the rules: each answer is computed, but for the powers, where N and the exponent are any numbers, and
 -- for the customer value, where the weights are any with the sum.
 -- Assumes nothing.
 use mathlib.Core.Path.{_≡_, refl}
@@ -42,4 +42,4 @@ of-sum w sum = rw sum
 
 pub starred : Starred
 unfolding inRange temperatureOf nearest everywhere somewhere howMany first last neverFalling lastLessFirst goodWeights goodMarks zeroCounts outOfOrder weightSum shareOf between has partsBelow sumOf
-starred = (((refl, refl), (refl, refl), (refl, refl)), (((refl, refl), (refl, refl, refl), (refl, refl, refl), (refl, refl, refl), (refl, refl, refl)), ((low, high, low-whole, high-whole), ((refl, refl, refl), (((refl, refl, refl), (refl, refl, refl), (refl, refl, refl)), ((of-sum, refl, refl), ((refl, refl, refl, refl), ((refl, refl, refl), tt))))))))
+starred = (((refl, refl, refl), (refl, refl, refl), (refl, refl, refl)), (((refl, refl, refl), (refl, refl, refl), (refl, refl, refl), (refl, refl, refl), (refl, refl, refl)), ((low, high, low-whole, high-whole), ((refl, refl, refl), (((refl, refl, refl), (refl, refl, refl), (refl, refl, refl)), ((of-sum, refl, refl), ((refl, refl, refl, refl), ((refl, refl, refl), tt))))))))

@@ -1,4 +1,3 @@
--- What the claims of crate vectors cite (the paper's first paragraph, Starred cases).
-pub mod Rounded
+-- What the claims of crate vectors cite (Starred cases).
 pub mod Starred
 pub mod Near

@@ -10,6 +10,7 @@ use Rattle.power.specs.Power.{one, powerLow, powerHigh, pLow, pHigh}
 use Rattle.profile.specs.Limits.{minus}
 use Rattle.profile.specs.Coefficients.{sumOf}
 use Rattle.weights.specs.Temperature.{temperatureNumber, temperaturePlace, temperatureValue}
+use Rattle.weights.specs.Weights.{dayTemperature}
 use Rattle.account.specs.Account.{Account, account, days, shown}
 use Rattle.account.specs.Refusals.{openNumber, readingNumber, cutNumber}
 use Rattle.profile.specs.Rows.{ifDone}
@@ -24,9 +25,9 @@ abbrev pub Holds : List (Type 0) → Type 0
 Holds [] = Unit {0}
 Holds (line ∷ lines) = line × Holds lines
 
--- four means, today's first, are accepted and give t
+-- four means, today's first, are accepted and give t, and so does the series of them, oldest first, for its day
 abbrev Gives : ℤ → ℤ → ℤ → ℤ → ℤ → Type 0
-Gives a b c d t = (temperatureNumber a b c d ≡ 0) × (temperatureValue a b c d ≡ t)
+Gives a b c d t = (temperatureNumber a b c d ≡ 0) × (temperatureValue a b c d ≡ t) × (dayTemperature (d ∷ c ∷ b ∷ a ∷ []) 0 ≡ t)
 
 -- they are refused with 4 and this index
 abbrev Refused : ℤ → ℤ → ℤ → ℤ → ℕ → Type 0

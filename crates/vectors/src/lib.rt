@@ -1,2 +1,1 @@
-// Facts about the rules (the paper's first paragraph, Starred cases): one rounding (specs/Rounded.antt), the starred cases (specs/Starred.antt), and
-// the value near 1 (specs/Near.antt); proofs/ proves them.
+// Facts about the rules (Starred cases): the starred cases (specs/Starred.antt), and the value near 1 (specs/Near.antt); proofs/ proves them.

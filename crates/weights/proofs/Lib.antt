@@ -1,4 +1,4 @@
--- The laws that the proofs of crate weights share.
+-- The laws that the proofs of crate weights share, and its theorems (Temperature of a day).
 pub mod Half
 pub mod Raised
 pub mod Filled

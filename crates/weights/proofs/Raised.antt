@@ -9,23 +9,17 @@ use lib.IntN.{ℤ, pos, negsuc, _+ℤ_, _-ℤ_, _*ℤ_}
 use mir.Syntax.{w16}
 use mir.Val.{SFits, ofZ, toZ}
 use mir.Facts.{toZ-ofZ}
+use Rattle.rounding.specs.Integers.{floorℤ}
+use Rattle.rounding.proofs.Parts.{above, below, less-sum, less-product, same-less}
 use Rattle.profile.specs.Limits.{inRange, coldest}
-use Rattle.profile.specs.Weight.{floorℤ}
-use Rattle.profile.proofs.Integer.{above, below, less-sum, less-product}
 use Rattle.weights.specs.Temperature.{temperatureOf, TemperatureInRange}
 
 -- r is z raised by 5,000
 pub record Raised (z : ℤ) (r : ℕ) : Type 0 where
   pub by : above z + 5000 ≡ below z + r
 
-equal : (x y : ℤ) → above x + below y ≡ above y + below x → x ≡ y
-equal (pos a) (pos b) h = ap pos (omega arith)
-equal (pos a) (negsuc b) h = absurd (omega arith)
-equal (negsuc a) (pos b) h = absurd (omega arith)
-equal (negsuc a) (negsuc b) h = ap negsuc (omega arith)
-
 pub same : {x y : ℤ} {r : ℕ} → Raised x r → Raised y r → x ≡ y
-same {x} {y} p q = equal x y (omega arith)
+same {x} {y} p q = same-less x y (omega arith)
 
 pub lowered : (r : ℕ) → Raised (pos r +ℤ coldest) r
 lowered r = let l = less-sum (pos r) coldest .less in record { by = omega arith }
@@ -52,7 +46,7 @@ pub raised-bits : (z : ℤ) → inRange z ≡ true → toZ w16 (ofZ w16 z) -ℤ 
 raised-bits z e =
     let r = raised z e in
     ap (λ (x : ℤ). x -ℤ coldest) (toZ-ofZ (fits z (r .1) (r .0)))
-    ∙ equal (z -ℤ coldest) (pos (up z)) (omega (arith, less-sum z (pos 5000)))
+    ∙ same-less (z -ℤ coldest) (pos (up z)) (omega (arith, less-sum z (pos 5000)))
 
 floor : (x : ℤ) (p : ℕ) → above x + 150000 ≡ below x + p → Raised (floorℤ x 30) (p / 30)
 floor (pos a) p h = record { by = omega arith }

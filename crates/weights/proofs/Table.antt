@@ -13,7 +13,6 @@ use Rattle.profile.proofs.Bounds.{whole-table}
 use Rattle.weights.specs.Means.{firstOut}
 use Rattle.profile.specs.Rows.{zeros}
 use Rattle.weights.specs.Weights.{dayTemperature, weightsOf, unfit, Ready, WeightsMet}
-use Rattle.weights.specs.declared.WeightsAnswer.the-variants.{Done, Unfit, NoProfile, NoWeekday, OutOfRange}
 use Rattle.weights.proofs.Raised.{temperature-in-range}
 use Rattle.weights.proofs.Series.{all-in}
 use Rattle.weights.proofs.Span.{weights-length, weights-at}
@@ -48,26 +47,26 @@ module _ (means : List ℤ) (before : List ℕ) where
       simp (le-leb 1 (length means - 3) (omega arith), le-leb (length means - 3) spanMost (f .span), eq-eqb (length before) (length means - 3) (f .room))
 
 module _ (p w : ℕ) (means : List ℤ) (before : List ℕ) where
-  pub unfit-met : unfit means before ≡ true → WeightsMet p w means before Unfit before means
+  pub unfit-met : unfit means before ≡ true → WeightsMet p w means before 3 0 before means
   unfit-met u = record { answers = simp u; places = simp u; writes = simp u; bounded = λ z. absurd (omega arith); stays = refl }
 
   module _ (after : List ℕ) (fits : Fit means before) where
     u : unfit means before ≡ false
     u = fitting means before fits
 
-    pub profile-met : profileCount ≤ p → after ≡ zeros before → WeightsMet p w means before NoProfile after means
+    pub profile-met : profileCount ≤ p → after ≡ zeros before → WeightsMet p w means before 1 0 after means
     profile-met h is =
         let e = le-leb profileCount p h in
         record { answers = simp (u, e); places = simp (u, e); writes = simp (u, e) is; bounded = λ z. absurd (omega arith); stays = refl }
 
-    pub weekday-met : p < profileCount → 6 < w → after ≡ zeros before → WeightsMet p w means before NoWeekday after means
+    pub weekday-met : p < profileCount → 6 < w → after ≡ zeros before → WeightsMet p w means before 2 0 after means
     weekday-met hp h is =
         let e = lt-leb profileCount p hp in
         let f = lt-ltb 6 w h in
         record { answers = simp (u, e, f); places = simp (u, e, f); writes = simp (u, e, f) is; bounded = λ z. absurd (omega arith); stays = refl }
 
     pub range-met : p < profileCount → w ≤ 6 → (k : ℕ) → k ≡ firstOut means → k < length means → after ≡ zeros before
-        → WeightsMet p w means before (OutOfRange k) after means
+        → WeightsMet p w means before 4 k after means
     range-met hp hw k i h is =
         let e = lt-leb profileCount p hp in
         let f = le-ltb 6 w hw in
@@ -80,7 +79,7 @@ module _ (p w : ℕ) (means : List ℤ) (before : List ℕ) where
           stays = refl;
         }
 
-    pub done-met : Ready p w means → after ≡ weightsOf p w means → WeightsMet p w means before Done after means
+    pub done-met : Ready p w means → after ≡ weightsOf p w means → WeightsMet p w means before 0 0 after means
     done-met r is =
         let e = lt-leb profileCount p (r .profile-known) in
         let f = le-ltb 6 w (omega arith) in

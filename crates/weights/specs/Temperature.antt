@@ -3,28 +3,14 @@
 use mathlib.Core.Path.{_≡_}
 use mathlib.Core.Bool.{true}
 use mathlib.Core.List.{List, [], _∷_}
-use Prim.Native.Nat.{ℕ, _*_, _<_}
+use Prim.Native.Nat.{ℕ}
 use lib.IntN.{ℤ, pos, _+ℤ_, _*ℤ_}
-use lib.Signed.{_≤ℤ_}
+use Rattle.rounding.specs.Integers.{nearestℤ}
 use Rattle.profile.specs.Limits.{inRange}
-use Rattle.profile.specs.Weight.{floorℤ}
 use Rattle.profile.specs.Rows.{row, ifDone}
 use Rattle.weights.specs.Means.{firstOut, someOut}
 use Rattle.weights.specs.declared.TemperatureAnswer.{TemperatureAnswer}
 use Rattle.weights.specs.declared.TemperatureAnswer.the-variants.{Temperature, OutOfRange}
-
--- x / d to the nearest whole number, an exact half going up
-abbrev pub nearestℤ : ℤ → ℕ → ℤ
-nearestℤ x d = floorℤ (pos 2 *ℤ x +ℤ pos d) (2 * d)
-
--- q is at most a half above x / d, and less than a half below it
-pub record IsNearestℤ (x : ℤ) (d : ℕ) (q : ℤ) : Type 0 where
-  pub not-above : (pos 2 *ℤ (q *ℤ pos d)) ≤ℤ (pos 2 *ℤ x +ℤ pos d)
-  pub not-below : (pos 2 *ℤ x +ℤ pos 1) ≤ℤ (pos 2 *ℤ (q *ℤ pos d) +ℤ pos d)
-
--- where d is above 0 there is one such q, `nearestℤ x d`, also below zero (proofs/Half, `one-nearest`)
-abbrev pub OneNearestℤ : Type 0
-OneNearestℤ = (x : ℤ) (d : ℕ) → 0 < d → IsNearestℤ x d (nearestℤ x d) × ((q : ℤ) → IsNearestℤ x d q → q ≡ nearestℤ x d)
 
 abbrev pub weighted : ℤ → ℤ → ℤ → ℤ → ℤ
 weighted a b c d = pos 8 *ℤ a +ℤ pos 4 *ℤ b +ℤ pos 2 *ℤ c +ℤ d
@@ -74,7 +60,7 @@ temperaturePlace a b c d = ifDone (temperatureNumber a b c d) 0 (firstOut (four 
 abbrev pub temperatureValue : ℤ → ℤ → ℤ → ℤ → ℤ
 temperatureValue a b c d = ifDone (temperatureNumber a b c d) (temperatureOf a b c d) (pos 0)
 
-pub record TemperatureMet (a b c d : ℤ) (answer : TemperatureAnswer) : Type 0 where
-  pub answers : number answer ≡ temperatureNumber a b c d
-  pub places : place answer ≡ temperaturePlace a b c d
-  pub gives : value answer ≡ temperatureValue a b c d
+pub record TemperatureMet (a b c d : ℤ) (answered placed : ℕ) (given : ℤ) : Type 0 where
+  pub answers : answered ≡ temperatureNumber a b c d
+  pub places : placed ≡ temperaturePlace a b c d
+  pub gives : given ≡ temperatureValue a b c d

@@ -73,11 +73,11 @@ pub record Bounded (weights : List ℕ) : Type 0 where
   pub most : length weights ≤ spanMost
   pub each : (k : ℕ) → k < length weights → (weightLeast ≤ getD weights k 0) × (getD weights k 0 ≤ weightMost)
 
-pub record WeightsMet (profile weekday : ℕ) (means : List ℤ) (before : List ℕ) (answer : WeightsAnswer) (after : List ℕ) (meansAfter : List ℤ) : Type 0 where
-  pub answers : number answer ≡ ruling profile weekday means before .number
-  pub places : place answer ≡ ruling profile weekday means before .place
+pub record WeightsMet (profile weekday : ℕ) (means : List ℤ) (before : List ℕ) (answered placed : ℕ) (after : List ℕ) (meansAfter : List ℤ) : Type 0 where
+  pub answers : answered ≡ ruling profile weekday means before .number
+  pub places : placed ≡ ruling profile weekday means before .place
   pub writes : after ≡ ruling profile weekday means before .memory
-  pub bounded : number answer ≡ 0 → Bounded after
+  pub bounded : answered ≡ 0 → Bounded after
   pub stays : meansAfter ≡ means
 
 -- ---- what the private functions ask: no condition of rows 1, 2 and 4 holds

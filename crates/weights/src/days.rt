@@ -1,4 +1,5 @@
 // The days of a span (Temperature of a day): one temperature, one power and one weight each, in one pass.
+use profile::WeightAnswer;
 ghost use mathlib.Core.Path.{_≡_};
 ghost use mathlib.Core.Bool.{true, false};
 ghost use Prim.Native.Nat.{_+_, _<_};
@@ -8,7 +9,6 @@ ghost use Rattle.profile.specs.Weight.{weightOf};
 ghost use Rattle.weights.specs.Means.{someOut};
 ghost use Rattle.profile.specs.Rows.{zeros};
 ghost use Rattle.weights.specs.Weights.{dayTemperature, weightsOf, Ready};
-use profile::WeightAnswer;
 
 pub(crate) fn clear(out: &mut [u32])
     ensures { λ r. ⌜ now (out .exit) ≡ zeros (now (out .entry)) ⌝ }

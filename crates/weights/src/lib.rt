@@ -2,10 +2,12 @@
 mod days;
 mod means;
 
+use profile::Profile;
 ghost use Rattle.weights.specs.Temperature.{TemperatureMet};
+ghost use Rattle.weights.specs.Temperature as temperatures;
 ghost use Rattle.weights.specs.Choose.{ChooseMet};
 ghost use Rattle.weights.specs.Weights.{WeightsMet};
-use profile::Profile;
+ghost use Rattle.weights.specs.Weights as spans;
 
 pub enum TemperatureAnswer {
     Temperature(i16),
@@ -25,7 +27,7 @@ pub enum WeightsAnswer {
 
 // The allocation temperature of four daily means, today's first.
 pub fn temperature(a: i16, b: i16, c: i16, d: i16) -> TemperatureAnswer
-    ensures { λ r. ⌜ TemperatureMet a b c d r ⌝ }
+    ensures { λ r. ⌜ TemperatureMet a b c d (temperatures.number r) (temperatures.place r) (temperatures.value r) ⌝ }
 {
     if !profile::in_range(a) {
         return TemperatureAnswer::OutOfRange(0);
@@ -63,7 +65,7 @@ pub fn choose<'a>(measured: &'a [i16], forecast: &'a [i16], n: usize) -> &'a [i1
 
 // The weight of each day of a span, from its means, oldest first, and the weekday of day 0.
 pub fn weights(profile: u8, weekday: u8, means: &[i16], out: &mut [u32]) -> WeightsAnswer
-    ensures { λ r. ⌜ WeightsMet profile weekday (now (means .entry)) (now (out .entry)) r (now (out .exit)) (now (means .exit)) ⌝ }
+    ensures { λ r. ⌜ WeightsMet profile weekday (now (means .entry)) (now (out .entry)) (spans.number r) (spans.place r) (now (out .exit)) (now (means .exit)) ⌝ }
 {
     if means.len() < 4 {
         return WeightsAnswer::Unfit;

@@ -1,4 +1,5 @@
 // Daily means (Temperature of a day): their range, and the rule of four of them. Inside, means are raised by 5,000 and unsigned.
+use profile::Profile;
 ghost use mathlib.Core.Path.{_≡_};
 ghost use mathlib.Core.Bool.{true};
 ghost use Prim.Native.Nat.{_<_};
@@ -7,7 +8,6 @@ ghost use Rattle.profile.specs.Limits.{inRange, coldest};
 ghost use Rattle.weights.specs.Means.{firstOut};
 ghost use Rattle.weights.specs.Temperature.{temperatureOf};
 ghost use Rattle.weights.specs.Choose.{serves};
-use profile::Profile;
 
 // The index of the first mean out of range, or the number of means.
 pub(crate) fn first_out(means: &[i16]) -> usize

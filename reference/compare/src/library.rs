@@ -38,71 +38,13 @@ pub trait Library {
     }
 }
 
-pub struct Model;
-
-impl Library for Model {
-    fn name(&self) -> &'static str {
-        "model"
-    }
-    fn temperature(&self, a: Mean, b: Mean, c: Mean, d: Mean) -> (Answer, Mean) {
-        temperature::temperature(a, b, c, d)
-    }
-    fn choose<'a>(&self, measured: &'a [Mean], forecast: &'a [Mean], n: usize) -> &'a [Mean] {
-        temperature::choose(measured, forecast, n)
-    }
-    fn value(&self, profile: ProfileNumber, t: Mean) -> (Answer, i64, i64) {
-        value::value(profile, t)
-    }
-    fn day_weight(&self, profile: ProfileNumber, weekday: Weekday, t: Mean) -> (Answer, u32) {
-        value::day_weight(profile, weekday, t)
-    }
-    fn weights(&self, profile: ProfileNumber, weekday: Weekday, means: &[Mean], out: &mut [u32]) -> Answer {
-        value::weights(profile, weekday, means, out)
-    }
-    fn open(&self, weights: &[u32], marks: &mut [u8], counts: &mut [u64]) -> Answer {
-        account::open(weights, marks, counts)
-    }
-    fn reading(&self, weights: &[u32], marks: &mut [u8], counts: &mut [u64], k: Boundary, count: u64) -> Answer {
-        account::reading(weights, marks, counts, k, count)
-    }
-    fn withdraw(&self, weights: &[u32], marks: &mut [u8], counts: &mut [u64], k: Boundary) -> Answer {
-        account::withdraw(weights, marks, counts, k)
-    }
-    fn cut(&self, weights: &[u32], marks: &mut [u8], counts: &[u64], k: Boundary) -> Answer {
-        account::cut(weights, marks, counts, k)
-    }
-    fn uncut(&self, weights: &[u32], marks: &mut [u8], counts: &[u64], k: Boundary) -> Answer {
-        account::uncut(weights, marks, counts, k)
-    }
-    fn statement(
-        &self,
-        weights: &[u32],
-        marks: &[u8],
-        counts: &[u64],
-        from: &mut [u16],
-        to: &mut [u16],
-        wh: &mut [u64],
-    ) -> (Answer, usize) {
-        statement::statement(weights, marks, counts, from, to, wh)
-    }
-    fn customer_value(&self, energy: u64, weights: &[u32]) -> (Answer, u64) {
-        customer::customer_value(energy, weights)
-    }
-    fn daily_amount(&self, value: u64, weight: u32) -> (Answer, u64) {
-        customer::daily_amount(value, weight)
-    }
-    fn read(&self, file: &[u8], weights: &mut [u32], marks: &mut [u8], counts: &mut [u64]) -> (Answer, usize) {
-        casefile::read(file, weights, marks, counts)
-    }
-}
-
 type Weights = fn(ProfileNumber, Weekday, &[Mean], &mut [u32]) -> Answer;
 type Reading = fn(&[u32], &mut [u8], &mut [u64], Boundary, u64) -> Answer;
 type Statement = fn(&[u32], &[u8], &[u64], &mut [u16], &mut [u16], &mut [u64]) -> (Answer, usize);
 type Read = fn(&[u8], &mut [u32], &mut [u8], &mut [u64]) -> (Answer, usize);
 
-/// A straight version: the four timed calls are its own, the others the model's.
-pub struct Straight {
+/// A version in Rust: the four timed calls are its own, the others the model's.
+pub struct Version {
     name: &'static str,
     weights: Weights,
     reading: Reading,
@@ -110,7 +52,15 @@ pub struct Straight {
     read: Read,
 }
 
-pub const PLAIN: Straight = Straight {
+pub const MODEL: Version = Version {
+    name: "model",
+    weights: value::weights,
+    reading: account::reading,
+    statement: statement::statement,
+    read: casefile::read,
+};
+
+pub const PLAIN: Version = Version {
     name: "plain",
     weights: straight::plain::weights,
     reading: straight::plain::reading,
@@ -118,7 +68,7 @@ pub const PLAIN: Straight = Straight {
     read: straight::plain::read,
 };
 
-pub const SAME: Straight = Straight {
+pub const SAME: Version = Version {
     name: "same",
     weights: straight::same::weights,
     reading: straight::same::reading,
@@ -126,7 +76,7 @@ pub const SAME: Straight = Straight {
     read: straight::same::read,
 };
 
-impl Library for Straight {
+impl Library for Version {
     fn name(&self) -> &'static str {
         self.name
     }

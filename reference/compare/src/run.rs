@@ -1,7 +1,7 @@
 //! A run of the comparison: the whole table of profile values, then random inputs; serves every section.
 
 use crate::checks::{Input, Outcome};
-use crate::library::{Library, Model};
+use crate::library::{Library, MODEL};
 use crate::random::Random;
 use crate::{demand3, inputs};
 use model::history::Call;
@@ -13,7 +13,7 @@ pub type Tally = BTreeMap<&'static str, BTreeMap<u8, u64>>;
 
 /// The model's outcome for one input, and what differs from it in the libraries.
 pub fn compare(input: &Input, libraries: &[Box<dyn Library>]) -> (Outcome, Vec<String>) {
-    let expected = input.run(&Model);
+    let expected = input.run(&MODEL);
     let mut differences = Vec::new();
     for library in libraries {
         let given = input.run(library.as_ref());
@@ -22,7 +22,7 @@ pub fn compare(input: &Input, libraries: &[Box<dyn Library>]) -> (Outcome, Vec<S
         }
     }
     if let Input::List(account, calls) = input {
-        let model: &dyn Library = &Model;
+        let model: &dyn Library = &MODEL;
         for library in libraries.iter().map(|library| library.as_ref()).chain([model]) {
             if let Err(wrong) = demand3::check(library, account, calls) {
                 differences.push(format!("{}, demand 3: {wrong}", library.name()));

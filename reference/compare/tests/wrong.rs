@@ -3,7 +3,7 @@
 use additions::texts::lay_out;
 use compare::checks::Input;
 use compare::demand3;
-use compare::library::{compared, Library, Model};
+use compare::library::{compared, Library, MODEL};
 use compare::programs;
 use compare::run::{compare, input, one, Tally};
 use model::{refused, Answer, Boundary, Mean, ProfileNumber, Weekday, DONE};
@@ -24,9 +24,9 @@ impl Library for Wrong {
     }
     fn temperature(&self, a: Mean, b: Mean, c: Mean, d: Mean) -> (Answer, Mean) {
         if self.is("oldest mean weighted most") {
-            return Model.temperature(d, c, b, a);
+            return MODEL.temperature(d, c, b, a);
         }
-        let (mut answer, mut t) = Model.temperature(a, b, c, d);
+        let (mut answer, mut t) = MODEL.temperature(a, b, c, d);
         if self.is("negative temperatures cut off") && answer == DONE {
             t = ((16 * a as i32 + 8 * b as i32 + 4 * c as i32 + 2 * d as i32 + 15) / 30) as Mean;
         }
@@ -37,16 +37,16 @@ impl Library for Wrong {
     }
     fn choose<'a>(&self, measured: &'a [Mean], forecast: &'a [Mean], n: usize) -> &'a [Mean] {
         if self.is("later means looked at") && measured.iter().any(|mean| *mean > 3_999) {
-            return Model.choose(&measured[..0], forecast, n);
+            return MODEL.choose(&measured[..0], forecast, n);
         }
-        let part = Model.choose(measured, forecast, n);
+        let part = MODEL.choose(measured, forecast, n);
         if self.is("empty part of the forecast") && part.is_empty() {
             return &forecast[..0];
         }
         part
     }
     fn value(&self, profile: ProfileNumber, t: Mean) -> (Answer, i64, i64) {
-        let (answer, low, high) = Model.value(profile, t);
+        let (answer, low, high) = MODEL.value(profile, t);
         match self.0 {
             "constant profile value" if answer == DONE => (answer, 1_000_000_000, 1_000_000_000),
             "high value one less" if high > low => (answer, low, high - 1),
@@ -54,20 +54,20 @@ impl Library for Wrong {
         }
     }
     fn day_weight(&self, profile: ProfileNumber, weekday: Weekday, t: Mean) -> (Answer, u32) {
-        let (answer, weight) = Model.day_weight(profile, weekday, t);
+        let (answer, weight) = MODEL.day_weight(profile, weekday, t);
         match self.0 {
-            "weekday 7 is Monday" if weekday == 7 => Model.day_weight(profile, 0, t),
+            "weekday 7 is Monday" if weekday == 7 => MODEL.day_weight(profile, 0, t),
             "weight rounded up" if answer == DONE => (answer, weight + 1),
             _ => (answer, weight),
         }
     }
     fn weights(&self, profile: ProfileNumber, weekday: Weekday, means: &[Mean], out: &mut [u32]) -> Answer {
         if self.is("weekday after the means") && weekday > 6 && profile < 10 {
-            let answer = Model.weights(profile, 0, means, out);
-            return if answer == DONE { Model.weights(profile, weekday, means, out) } else { answer };
+            let answer = MODEL.weights(profile, 0, means, out);
+            return if answer == DONE { MODEL.weights(profile, weekday, means, out) } else { answer };
         }
         let before = out.to_vec();
-        let answer = Model.weights(profile, weekday, means, out);
+        let answer = MODEL.weights(profile, weekday, means, out);
         if self.is("weights untouched after 4") && answer.number == 4 {
             out.copy_from_slice(&before);
         }
@@ -75,7 +75,7 @@ impl Library for Wrong {
     }
     fn open(&self, weights: &[u32], marks: &mut [u8], counts: &mut [u64]) -> Answer {
         let kept = counts.to_vec();
-        let answer = Model.open(weights, marks, counts);
+        let answer = MODEL.open(weights, marks, counts);
         if self.is("open leaves the counts") {
             counts.copy_from_slice(&kept);
         }
@@ -84,7 +84,7 @@ impl Library for Wrong {
     fn reading(&self, weights: &[u32], marks: &mut [u8], counts: &mut [u64], k: Boundary, count: u64) -> Answer {
         let k = if self.is("boundary cut to 16 bits") { k as u16 as usize } else { k };
         let (old_marks, old_counts) = (marks.to_vec(), counts.to_vec());
-        let answer = Model.reading(weights, marks, counts, k, count);
+        let answer = MODEL.reading(weights, marks, counts, k, count);
         let equal = || old_counts.iter().zip(&old_marks).any(|(other, mark)| *mark >= 2 && *other == count);
         match self.0 {
             "reading stores nothing" => {
@@ -111,7 +111,7 @@ impl Library for Wrong {
     }
     fn withdraw(&self, weights: &[u32], marks: &mut [u8], counts: &mut [u64], k: Boundary) -> Answer {
         let kept = counts.to_vec();
-        let answer = Model.withdraw(weights, marks, counts, k);
+        let answer = MODEL.withdraw(weights, marks, counts, k);
         match self.0 {
             "withdraw leaves the count" => counts.copy_from_slice(&kept),
             "withdraw takes the cut" if answer == DONE => marks[k] = 0,
@@ -121,7 +121,7 @@ impl Library for Wrong {
     }
     fn cut(&self, weights: &[u32], marks: &mut [u8], counts: &[u64], k: Boundary) -> Answer {
         let kept = marks.to_vec();
-        let answer = Model.cut(weights, marks, counts, k);
+        let answer = MODEL.cut(weights, marks, counts, k);
         if self.is("cut stores nothing") {
             marks.copy_from_slice(&kept);
         }
@@ -129,7 +129,7 @@ impl Library for Wrong {
     }
     fn uncut(&self, weights: &[u32], marks: &mut [u8], counts: &[u64], k: Boundary) -> Answer {
         let kept = marks.to_vec();
-        let answer = Model.uncut(weights, marks, counts, k);
+        let answer = MODEL.uncut(weights, marks, counts, k);
         match self.0 {
             "uncut stores nothing" => marks.copy_from_slice(&kept),
             "uncut takes the reading" if answer == DONE => marks[k] = 0,
@@ -147,7 +147,7 @@ impl Library for Wrong {
         wh: &mut [u64],
     ) -> (Answer, usize) {
         let old = wh.to_vec();
-        let (answer, parts) = Model.statement(weights, marks, counts, from, to, wh);
+        let (answer, parts) = MODEL.statement(weights, marks, counts, from, to, wh);
         let whole = |from: usize, to: usize| weights[from..to].iter().map(|weight| *weight as u128).sum::<u128>();
         match self.0 {
             "outputs left after 11" if answer.number == 11 => wh.copy_from_slice(&old),
@@ -203,7 +203,7 @@ impl Library for Wrong {
         (answer, parts)
     }
     fn customer_value(&self, energy: u64, weights: &[u32]) -> (Answer, u64) {
-        let (answer, value) = Model.customer_value(energy, weights);
+        let (answer, value) = MODEL.customer_value(energy, weights);
         match self.0 {
             "customer value rounded down" if answer == DONE => {
                 let z: u64 = weights.iter().map(|weight| *weight as u64).sum();
@@ -214,14 +214,14 @@ impl Library for Wrong {
         }
     }
     fn daily_amount(&self, value: u64, weight: u32) -> (Answer, u64) {
-        let (answer, amount) = Model.daily_amount(value, weight);
+        let (answer, amount) = MODEL.daily_amount(value, weight);
         if self.is("daily halves down") && answer == DONE {
             return (answer, ((value as u128 * weight as u128 + 4_999_999) / 10_000_000) as u64);
         }
         (answer, amount)
     }
     fn read(&self, file: &[u8], weights: &mut [u32], marks: &mut [u8], counts: &mut [u64]) -> (Answer, usize) {
-        let (mut answer, n) = Model.read(file, weights, marks, counts);
+        let (mut answer, n) = MODEL.read(file, weights, marks, counts);
         match self.0 {
             "13 at the item" if answer.number == 13 && answer.place == file.len() => answer.place -= file.len() % 2,
             "8 at the boundary" if answer.number == 8 => answer.place -= 2,
@@ -238,9 +238,9 @@ impl Library for Wrong {
     }
     fn statement_text(&self, from: &[u16], to: &[u16], wh: &[u64], parts: usize, out: &mut [u8]) -> usize {
         if self.is("from and to exchanged") {
-            return Model.statement_text(to, from, wh, parts, out);
+            return MODEL.statement_text(to, from, wh, parts, out);
         }
-        let length = Model.statement_text(from, to, wh, parts, out);
+        let length = MODEL.statement_text(from, to, wh, parts, out);
         match self.0 {
             "a byte past the text" if length < out.len() => out[length] = 0,
             "only what fits is counted" => return length.min(out.len()),
@@ -251,9 +251,9 @@ impl Library for Wrong {
     }
     fn refusal_text(&self, number: u8, place: usize, out: &mut [u8]) -> usize {
         if self.is("number and place exchanged") {
-            return Model.refusal_text(place as u8, number as usize, out);
+            return MODEL.refusal_text(place as u8, number as usize, out);
         }
-        let length = Model.refusal_text(number, place, out);
+        let length = MODEL.refusal_text(number, place, out);
         if self.is("refusal without its end") && length <= out.len() {
             out[length - 1] = b' ';
         }

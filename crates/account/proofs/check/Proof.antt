@@ -1,4 +1,4 @@
--- `account::check` meets its contract: row 3, then the parts of soundness, one after the other. Assumes nothing.
+-- `account::check` meets its contract (Account and its calls): row 3, then the parts of soundness, one after the other. Assumes nothing.
 use Prim.Native.Nat.{ℕ}
 use mathlib.Core.Path.{_≡_, refl, sym, _∙_}
 use mathlib.Core.Bool.{true, false}

@@ -1,4 +1,4 @@
--- `account::good_weights` meets its contract. The loop's invariant: every weight passed is good. Assumes nothing.
+-- `account::good_weights` meets its contract (Account and its calls). The loop's invariant: every weight passed is good. Assumes nothing.
 use Prim.Native.Nat.{ℕ, _≤_, _<_, _-_}
 use native.Mathlib.Numerals.{add-one}
 use native.Mathlib.Omega.{arith}

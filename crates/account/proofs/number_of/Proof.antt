@@ -1,4 +1,4 @@
--- `account::number_of` meets its contract, arm by arm. Written out so that a wrong number is refused at its own arm. Assumes nothing.
+-- `account::number_of` meets its contract (Account and its calls), arm by arm. Written out so that a wrong number is refused at its own arm. Assumes nothing.
 use borrow.Author.Needs.{needs}
 use Rattle.account.proofs.number_of.Statement.{statement}
 use Rattle.account.proofs.number_of.Tie as tie

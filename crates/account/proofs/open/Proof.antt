@@ -1,4 +1,4 @@
--- `account::open` meets its contract: rows 3 and 5, and the two slices cleared. Assumes nothing.
+-- `account::open` meets its contract (Account and its calls): rows 3 and 5, and the two slices cleared. Assumes nothing.
 use native.Mathlib.Omega.{arith}
 use mathlib.Core.Path.{_≡_, sym, ap₂, _∙_}
 use mathlib.Core.List.{List}

@@ -1,4 +1,4 @@
--- `account::withdraw` meets its contract: the table's answer, and the store where that is done. Assumes nothing.
+-- `account::withdraw` meets its contract (Account and its calls): the table's answer, and the store where that is done. Assumes nothing.
 use Prim.Native.Nat.{ℕ}
 use native.Mathlib.Omega.{arith}
 use mathlib.Core.Path.{_≡_, sym, ap, _∙_}

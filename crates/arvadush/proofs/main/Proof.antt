@@ -1,4 +1,4 @@
--- `arvadush::main` ends, and prints one case. Assumes nothing.
+-- `arvadush::main` (Case file) ends, and prints one case. Assumes nothing.
 use mathlib.Core.Path.{refl}
 use borrow.Author.Needs.{needs}
 use Rattle.arvadush.specs.Traces.{PrintsOneCase}

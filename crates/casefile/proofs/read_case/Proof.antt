@@ -1,4 +1,4 @@
--- `casefile::read_case` meets its contract: lengths first, then the file into cleared slices, which are cleared again after a fault.
+-- `casefile::read_case` meets its contract (Case file): lengths first, then the file into cleared slices, which are cleared again after a fault.
 -- Assumes nothing.
 use mathlib.Core.Path.{_∙_}
 use Rattle.account.specs.Account.{Account, account}

@@ -1,4 +1,4 @@
--- `cases::main` is safe and ends: the measure is the number of arguments that are left. It prints each. Assumes nothing.
+-- `cases::main` (Case file) is safe and ends: the measure is the number of arguments that are left. It prints each. Assumes nothing.
 use Prim.Native.Nat.{_-_}
 use mathlib.Core.Path.{refl}
 use native.Mathlib.Omega.{arith}

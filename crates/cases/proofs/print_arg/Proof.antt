@@ -1,4 +1,4 @@
--- `cases::print_arg` is safe and ends, and prints the file that its argument names. Assumes nothing.
+-- `cases::print_arg` (Case file) is safe and ends, and prints the file that its argument names. Assumes nothing.
 use mathlib.Core.Path.{refl}
 use borrow.Author.Needs.{needs}
 use Rattle.cases.specs.Traces.{PrintsArgument}

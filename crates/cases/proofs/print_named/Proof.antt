@@ -1,4 +1,4 @@
--- `cases::print_named` is safe and ends, and prints one file. Assumes nothing.
+-- `cases::print_named` (Case file) is safe and ends, and prints one file. Assumes nothing.
 use mathlib.Core.Path.{refl}
 use borrow.Author.Needs.{needs}
 use Rattle.cases.specs.Traces.{PrintsNamed}

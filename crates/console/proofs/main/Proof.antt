@@ -1,4 +1,4 @@
--- `console::main` lends buffers that are all zero, and room for any answer. It answers one script. Assumes nothing.
+-- `console::main` (docs/GUIDE.md, The console) lends buffers that are all zero, and room for any answer. It answers one script. Assumes nothing.
 use mathlib.Core.Path.{refl}
 use native.Mathlib.Omega.{arith}
 use borrow.Author.Needs.{needs}

@@ -1,4 +1,4 @@
--- `customer::customer_value` meets its contract: each return is the row of the table that its tests led to. Assumes nothing.
+-- `customer::customer_value` meets its contract (Customer value and daily amount): each return is the row of the table that its tests led to. Assumes nothing.
 use mathlib.Core.Path.{_≡_, refl, sym, ap, _∙_}
 use mathlib.Core.Bool.{false, true}
 use mathlib.Core.List.{List}

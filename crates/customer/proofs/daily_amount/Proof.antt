@@ -1,4 +1,4 @@
--- `customer::daily_amount` meets its contract: each return is the row of the table that its test led to. Assumes nothing.
+-- `customer::daily_amount` meets its contract (Customer value and daily amount): each return is the row of the table that its test led to. Assumes nothing.
 use Prim.Native.Nat.{ℕ, _*_, _≤_, _<_, _^_}
 use native.Mathlib.Nat.{mul-le-mul, lt-of-le-of-lt}
 use borrow.Author.Needs.{needs}

@@ -1,4 +1,4 @@
--- `customer::sum_of` meets its contract. The loop's invariant: the sum so far and the sum of the rest are the sum of all, and the sum so
+-- `customer::sum_of` meets its contract (Customer value and daily amount). The loop's invariant: the sum so far and the sum of the rest are the sum of all, and the sum so
 -- far is at most 2^32 for each weight passed. Assumes nothing.
 use Prim.Native.Nat.{ℕ, _+_, _-_, _*_, _≤_, _<_, _^_}
 use mathlib.Core.Path.{_≡_}

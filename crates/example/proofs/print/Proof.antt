@@ -1,4 +1,4 @@
--- `example::print` is safe: it writes no more than the buffer has. Assumes nothing.
+-- `example::print` (README.md) is safe: it writes no more than the buffer has. Assumes nothing.
 use mathlib.Core.Path.{sym}
 use lib.Seq.{length-take-le}
 use borrow.Author.Needs.{needs}

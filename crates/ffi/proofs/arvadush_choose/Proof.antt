@@ -1,4 +1,4 @@
--- `ffi::arvadush_choose` meets its contract: how long the part of each series alone is says which series serves.
+-- `ffi::arvadush_choose` meets its contract (If a call declines): how long the part of each series alone is says which series serves.
 -- Assumes nothing.
 use Prim.Native.Nat.{ℕ, _+_}
 use mathlib.Core.Path.{_≡_, refl, sym, _∙_}

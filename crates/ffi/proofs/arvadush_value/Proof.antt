@@ -1,4 +1,4 @@
--- `ffi::arvadush_value` meets its contract, which is that of `profile::value` at its answer's numbers. Assumes nothing.
+-- `ffi::arvadush_value` meets its contract (If a call declines), which is that of `profile::value` at its answer's numbers. Assumes nothing.
 use mathlib.Core.Path.{_∙_}
 use borrow.Author.Needs.{needs, sfits-of}
 use mir.Facts.{toZ-ofZ}

@@ -1,4 +1,4 @@
--- `figures::from_coldest` meets its contract: the number fits 16 bits before and after 5,000 are taken off. Assumes nothing.
+-- `figures::from_coldest` meets its contract (Starred cases): the number fits 16 bits before and after 5,000 are taken off. Assumes nothing.
 use borrow.Author.Needs.{needs}
 use native.Mathlib.Omega.{arith}
 use mir.Syntax.{w16}

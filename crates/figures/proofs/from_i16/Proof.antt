@@ -1,4 +1,4 @@
--- `figures::from_i16` is safe and ends: 64 bits hold what 16 do. Assumes nothing.
+-- `figures::from_i16` (Starred cases) is safe and ends: 64 bits hold what 16 do. Assumes nothing.
 use borrow.Author.Needs.{needs}
 use mir.Facts.{toZ-ofZ, sfits-widen}
 use Rattle.figures.proofs.from_i16.Statement.{statement}

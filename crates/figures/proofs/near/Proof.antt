@@ -1,8 +1,8 @@
--- `figures::near` is safe and ends, and asks what it prints. Assumes nothing.
+-- `figures::near` (Starred cases) is safe and ends, and asks what it prints. Assumes nothing.
 use mathlib.Core.Path.{refl, sym}
 use lib.Seq.{length-take-le}
 use borrow.Author.Needs.{needs}
-use Rattle.figures.specs.Near.{Asks}
+use Rattle.figures.specs.Traces.{Asks}
 use Rattle.figures.proofs.near.Code.Mir as code
 use Rattle.figures.proofs.near.Statement.{statement}
 use Rattle.figures.proofs.near.Tie as tie

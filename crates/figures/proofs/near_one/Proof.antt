@@ -1,4 +1,4 @@
--- `figures::near_one` meets its contract: its two tests are those of the equation. Assumes nothing.
+-- `figures::near_one` meets its contract (Starred cases): its two tests are those of the equation. Assumes nothing.
 use mir.Facts.{toZ-ofZ}
 use Rattle.figures.proofs.near_one.Statement.{statement}
 use Rattle.figures.proofs.near_one.Tie as tie

@@ -1,4 +1,4 @@
--- `figures::over_temperatures` is safe and ends: it stops after 9,000 temperatures, all of them fit. Assumes nothing.
+-- `figures::over_temperatures` (Starred cases) is safe and ends: it stops after 9,000 temperatures, all of them fit. Assumes nothing.
 use Prim.Native.Nat.{_≤_, _-_}
 use native.Mathlib.Omega.{arith}
 use borrow.Author.Needs.{needs}

@@ -1,4 +1,4 @@
--- `figures::over_week` is safe and ends: it stops after the seventh weekday. Assumes nothing.
+-- `figures::over_week` (Starred cases) is safe and ends: it stops after the seventh weekday. Assumes nothing.
 use Prim.Native.Nat.{_≤_, _-_}
 use native.Mathlib.Omega.{arith}
 use borrow.Author.Needs.{needs}

@@ -1,4 +1,4 @@
--- `figures::size` is safe and ends: what is not below 0 is its own size, and the negation of what is above -10^9 fits.
+-- `figures::size` (Starred cases) is safe and ends: what is not below 0 is its own size, and the negation of what is above -10^9 fits.
 -- Assumes nothing.
 use mathlib.Core.Path.{_≡_, sym, ap}
 use mathlib.Core.Bool.{true, false, true≢false}

@@ -1,4 +1,4 @@
--- `figures::value_near_one` meets its contract: a refused value is 0, which is not near 1. Assumes nothing.
+-- `figures::value_near_one` meets its contract (Starred cases): a refused value is 0, which is not near 1. Assumes nothing.
 use Prim.Native.Nat.{ℕ}
 use mathlib.Core.Path.{_≡_, sym, ap, ap₂, _∙_}
 use mathlib.Core.Bool.{Bool}
@@ -16,7 +16,7 @@ use Rattle.figures.proofs.value_near_one.Tie as tie
 abbrev givenNear : ValueAnswer → Bool
 givenNear answer = nearOne (lowGiven answer) (highGiven answer)
 
-given-near : {profile : ℕ} {t : ℤ} {answer : ValueAnswer} → ValueMet profile t answer → givenNear answer ≡ valueNearOne profile t
+given-near : {profile answered placed : ℕ} {t low high : ℤ} → ValueMet profile t answered placed low high → nearOne low high ≡ valueNearOne profile t
 given-near met = ap₂ nearOne (met .low) (met .high)
 
 value-requires : tie.Need-value-requires

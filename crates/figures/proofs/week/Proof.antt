@@ -1,4 +1,4 @@
--- `figures::week` is safe and ends: the sum is below 65,536 for each factor passed. Assumes nothing.
+-- `figures::week` (Starred cases) is safe and ends: the sum is below 65,536 for each factor passed. Assumes nothing.
 use Prim.Native.Nat.{_≤_, _*_, _-_}
 use native.Mathlib.Omega.{arith}
 use borrow.Author.Needs.{needs}

@@ -1,4 +1,4 @@
--- `figures::whole_table` is safe and ends: it stops after the tenth profile. Assumes nothing.
+-- `figures::whole_table` (Starred cases) is safe and ends: it stops after the tenth profile. Assumes nothing.
 use Prim.Native.Nat.{_≤_, _-_}
 use native.Mathlib.Omega.{arith}
 use borrow.Author.Needs.{needs}

@@ -1,4 +1,4 @@
--- `figures::wider` meets its contract: each of its two tests picks as `min` and `max` do. Assumes nothing.
+-- `figures::wider` meets its contract (Starred cases): each of its two tests picks as `min` and `max` do. Assumes nothing.
 use native.Mathlib.Omega.{arith}
 use mathlib.Core.Logic.{⊎-elim}
 use Rattle.figures.proofs.wider.Statement.{statement}

@@ -1,7 +1,7 @@
--- `figures::word` is safe and ends, and writes once. Assumes nothing.
+-- `figures::word` (Starred cases) is safe and ends, and writes once. Assumes nothing.
 use mathlib.Core.Path.{refl}
 use borrow.Author.Needs.{needs}
-use Rattle.figures.specs.Near.{WritesWord}
+use Rattle.figures.specs.Traces.{WritesWord}
 use Rattle.figures.proofs.word.Code.Mir as code
 use Rattle.figures.proofs.word.Statement.{statement}
 use Rattle.figures.proofs.word.Tie as tie

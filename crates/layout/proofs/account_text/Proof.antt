@@ -1,4 +1,4 @@
--- `layout::account_text` meets its contract. Assumes nothing.
+-- `layout::account_text` meets its contract (Case file). Assumes nothing.
 use mathlib.Core.Path.{refl}
 use native.Mathlib.Omega.{arith}
 use Rattle.account.specs.Account.{account}

@@ -1,4 +1,4 @@
--- `layout::answered` meets its contract. Assumes nothing.
+-- `layout::answered` meets its contract (Case file). Assumes nothing.
 use borrow.Author.Needs.{needs}
 use Rattle.layout.proofs.answered.Statement.{statement}
 use Rattle.layout.proofs.answered.Tie as tie

@@ -1,4 +1,4 @@
--- `layout::line` meets its contract: its numbers, one after the other. Assumes nothing.
+-- `layout::line` meets its contract (Case file): its numbers, one after the other. Assumes nothing.
 use native.Mathlib.Omega.{arith}
 use Rattle.layout.specs.Text.{decimal, space, lineFeed}
 use Rattle.layout.proofs.Laid.{then-both}

@@ -1,4 +1,4 @@
--- `layout::lines` meets its contract. The loop's invariant: the lines of the parts passed are laid out. Assumes nothing.
+-- `layout::lines` meets its contract (Case file). The loop's invariant: the lines of the parts passed are laid out. Assumes nothing.
 use Prim.Native.Nat.{_+_, _-_, _*_, _≤_}
 use mathlib.Core.Path.{_≡_, refl, sym, _∙_}
 use native.Mathlib.Omega.{arith}

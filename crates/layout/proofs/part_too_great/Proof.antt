@@ -1,4 +1,4 @@
--- `layout::part_too_great` meets its contract. The loop's invariant: no part passed is too great. Assumes nothing.
+-- `layout::part_too_great` meets its contract (Case file). The loop's invariant: no part passed is too great. Assumes nothing.
 use Prim.Native.Nat.{_-_, _≤_}
 use mathlib.Core.Path.{_≡_, sym, _∙_}
 use mathlib.Core.Bool.{false}

@@ -1,4 +1,4 @@
--- `layout::parts_text` meets its contract: its words, numbers and lines, one after the other. Assumes nothing.
+-- `layout::parts_text` meets its contract (Case file): its words, numbers and lines, one after the other. Assumes nothing.
 use Rattle.layout.specs.Text.{decimal, lineFeed}
 use Rattle.layout.proofs.Laid.{then-laid, then-both}
 use borrow.Author.Needs.{needs}

@@ -1,4 +1,4 @@
--- `layout::refusal_text` meets its contract: its word and numbers, one after the other. Assumes nothing.
+-- `layout::refusal_text` meets its contract (Case file): its word and numbers, one after the other. Assumes nothing.
 use Rattle.layout.specs.Text.{decimal, space, lineFeed}
 use Rattle.layout.proofs.Laid.{then-both}
 use borrow.Author.Needs.{needs}

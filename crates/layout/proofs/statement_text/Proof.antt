@@ -1,4 +1,4 @@
--- `layout::statement_text` meets its contract: nothing where no statement can be like that, else its text. Assumes nothing.
+-- `layout::statement_text` meets its contract (Case file): nothing where no statement can be like that, else its text. Assumes nothing.
 use mathlib.Core.Path.{_≡_, sym, _∙_}
 use mathlib.Core.List.{List}
 use Prim.Native.Nat.{ℕ, _≤_}

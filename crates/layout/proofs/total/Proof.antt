@@ -1,4 +1,4 @@
--- `layout::total` meets its contract. The loop's invariant: the sum so far, at most 2,000,000,000 for each part passed. Assumes nothing.
+-- `layout::total` meets its contract (Case file). The loop's invariant: the sum so far, at most 2,000,000,000 for each part passed. Assumes nothing.
 use Prim.Native.Nat.{ℕ, _-_, _*_, _≤_}
 use mathlib.Core.Path.{_≡_, sym}
 use mathlib.Core.List.{List}

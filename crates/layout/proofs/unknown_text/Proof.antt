@@ -1,4 +1,4 @@
--- `layout::unknown_text` meets its contract: its word and number, one after the other. Assumes nothing.
+-- `layout::unknown_text` meets its contract (Case file): its word and number, one after the other. Assumes nothing.
 use Rattle.layout.specs.Text.{decimal, lineFeed}
 use Rattle.layout.proofs.Laid.{then-both}
 use borrow.Author.Needs.{needs}

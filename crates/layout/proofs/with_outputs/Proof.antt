@@ -1,4 +1,4 @@
--- `layout::with_outputs` meets its contract. Assumes nothing.
+-- `layout::with_outputs` meets its contract (Case file). Assumes nothing.
 use mathlib.Core.Path.{sym, _∙_}
 use native.Mathlib.Omega.{arith}
 use lib.ListN.{length, take, drop}

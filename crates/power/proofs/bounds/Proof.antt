@@ -1,4 +1,4 @@
--- `power::bounds` meets its contract: the enclosing is the law of the rules, at what was returned.
+-- `power::bounds` meets its contract (Profile value): the enclosing is the law of the rules, at what was returned.
 -- Assumes nothing.
 use mathlib.Core.Path.{refl}
 use Prim.Native.Nat.{_≤_, _<_}

@@ -1,4 +1,4 @@
--- `power::lower` meets its contract.
+-- `power::lower` meets its contract (Profile value).
 -- Assumes nothing.
 use borrow.Author.Needs.{needs}
 use Rattle.power.specs.Power.{lowerOf, pLow, cHigh}

@@ -1,4 +1,4 @@
--- `power::upper` meets its contract.
+-- `power::upper` meets its contract (Profile value).
 -- Assumes nothing.
 use borrow.Author.Needs.{needs}
 use Rattle.power.specs.Power.{upperOf, pHigh, cLow}

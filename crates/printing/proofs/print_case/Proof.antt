@@ -1,4 +1,4 @@
--- `printing::print_case` prints the text of what it read, once: the arrays have the lengths that the reader asks, and the buffer holds any text. Assumes nothing.
+-- `printing::print_case` (Case file) prints the text of what it read, once: the arrays have the lengths that the reader asks, and the buffer holds any text. Assumes nothing.
 use mathlib.Core.Path.{_≡_, refl, sym}
 use native.Mathlib.Omega.{arith}
 use lib.ListN.{length}

@@ -1,4 +1,4 @@
--- `profile::day_weight` meets its contract: its tests are those of the rows, in their order; the range is that of the whole table.
+-- `profile::day_weight` meets its contract (Profiles): its tests are those of the rows, in their order; the range is that of the whole table.
 -- Assumes nothing.
 use mathlib.Core.Path.{_≡_, refl, sym, _∙_}
 use Prim.Native.Nat.{ℕ, suc}
@@ -23,7 +23,7 @@ declined :
     → weightAnswered r ≡ suc n
     → weightPlaced r ≡ 0
     → weightGiven r ≡ 0
-    → WeightMet k w t r
+    → WeightMet k w t (weightAnswered r) (weightPlaced r) (weightGiven r)
 declined {k} {w} {t} r n e f p g =
     record {
       answers = f ∙ sym e;

@@ -1,4 +1,4 @@
--- `profile::in_range` meets its contract: its two tests are those of the definition.
+-- `profile::in_range` meets its contract (Profiles): its two tests are those of the definition.
 -- Assumes nothing.
 use mir.Facts.{toZ-ofZ}
 use Rattle.profile.specs.Limits.{inRange}

@@ -1,4 +1,4 @@
--- `profile::value` meets its contract: its tests are those of the rows, in their order.
+-- `profile::value` meets its contract (Profiles): its tests are those of the rows, in their order.
 -- Assumes nothing.
 use mathlib.Core.Path.{_≡_, refl, sym, _∙_}
 use native.Mathlib.Omega.{arith}

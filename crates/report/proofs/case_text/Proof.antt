@@ -1,9 +1,9 @@
--- `report::case_text` meets its contract. Assumes nothing.
+-- `report::case_text` meets its contract (Case file). Assumes nothing.
 use mathlib.Core.Path.{refl, subst}
 use Rattle.account.specs.Account.{Account, account}
 use Rattle.casefile.specs.declared.CaseAnswer.{CaseAnswer}
-use Rattle.casefile.specs.declared.CaseAnswer.the-variants.{Days, Refused}
 use Rattle.casefile.specs.Reader.{ReadMet}
+use Rattle.casefile.specs.Reader as reader
 use Rattle.report.proofs.Taken.{weights-reach, marks-reach, counts-reach, taken-says, refused-says}
 use Rattle.report.proofs.Fits.{text-met}
 use borrow.Author.Needs.{needs}
@@ -23,8 +23,16 @@ lent c = account (c .args .weights .now) (c .args .marks .now) (c .args .counts 
 abbrev filled : tie.After-read-case → Account
 filled c = account (c .read-case .last .1 .0) (c .read-case .last .1 .1 .0) (c .read-case .last .1 .1 .1 .0)
 
-days-met : (c : tie.After-answer) → ReadMet (c .before .before .before .before .before .before .before .before .before .before .before .before .before .before .before .before .before .args .file .now) (lent (c .before .before .before .before .before .before .before .before .before .before .before .before .before .before .before .before .before)) (Days (c .answer .given .0 .0)) (filled (c .before .before .before .before .before .before .before .before)) (c .before .before .before .before .before .before .before .before .before .before .before .before .before .before .before .before .before .args .file .now)
-days-met c = subst (λ (a : CaseAnswer). ReadMet (c .before .before .before .before .before .before .before .before .before .before .before .before .before .before .before .before .before .args .file .now) (lent (c .before .before .before .before .before .before .before .before .before .before .before .before .before .before .before .before .before)) a (filled (c .before .before .before .before .before .before .before .before)) (c .before .before .before .before .before .before .before .before .before .before .before .before .before .before .before .before .before .args .file .now)) (c .answer .given .1) (c .before .before .before .before .before .before .before .before .read-case .ensures)
+abbrev start : tie.After-answer → tie.Start
+start c = c .before .before .before .before .before .before .before .before .before .before .before .before .before .before .before .before .before
+
+days-met : (c : tie.After-answer) →
+    let s = start c .args .file .now in ReadMet s (lent (start c)) 0 0 (c .answer .given .0 .0) (filled (c .before .before .before .before .before .before .before .before)) s
+days-met c =
+    let s = start c .args .file .now in
+    subst
+    (λ (a : CaseAnswer). ReadMet s (lent (start c)) (reader.number a) (reader.place a) (reader.days a) (filled (c .before .before .before .before .before .before .before .before)) s)
+    (c .answer .given .1) (c .before .before .before .before .before .before .before .before .read-case .ensures)
 
 days-text-requires : tie.Need-days-text-requires
 days-text-requires c κs =
@@ -70,8 +78,8 @@ returns-2 c =
     let s = c .before .before .before .before .before .before .before .before .before .before .before .before .before .before .before .before .before .before .before .before .before .before .args .file .now in
     let a = lent (c .before .before .before .before .before .before .before .before .before .before .before .before .before .before .before .before .before .before .before .before .before .before) in
     let f = filled (c .before .before .before .before .before .before .before .before .before .before .before .before .before) in
-    let m : ReadMet s a (Refused (c .before .before .before .before .before .answer2 .given .0 .0) (c .before .before .before .before .before .answer2 .given .0 .1 .0)) f s =
-    subst (λ (x : CaseAnswer). ReadMet s a x f s) (c .before .before .before .before .before .answer2 .given .1) (c .before .before .before .before .before .before .before .before .before .before .before .before .before .read-case .ensures) in
+    let m : ReadMet s a (c .before .before .before .before .before .answer2 .given .0 .0) (c .before .before .before .before .before .answer2 .given .0 .1 .0) 0 f s =
+    subst (λ (x : CaseAnswer). ReadMet s a (reader.number x) (reader.place x) (reader.days x) f s) (c .before .before .before .before .before .answer2 .given .1) (c .before .before .before .before .before .before .before .before .before .before .before .before .before .read-case .ensures) in
     (text-met _ _ _ _ _ _ _ (c .before .before .refusal-text .ensures) (refused-says _ _ _ _ _ m) (m .writes), refl)
 
 pub case-text-spec : {M : Type 1} → statement M

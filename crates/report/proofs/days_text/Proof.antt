@@ -1,4 +1,4 @@
--- `report::days_text` meets its contract. Assumes nothing.
+-- `report::days_text` meets its contract (Case file). Assumes nothing.
 use mathlib.Core.Path.{sym}
 use native.Mathlib.Omega.{arith}
 use lib.Seq.{length-take-le}

@@ -1,4 +1,4 @@
--- `rounding::nearest_of` meets its contract: the quotient, or one more where the remainder is at least half of d. Assumes nothing.
+-- `rounding::nearest_of` meets its contract (the paper's first paragraph): the quotient, or one more where the remainder is at least half of d. Assumes nothing.
 use mathlib.Core.Path.{_≡_, sym}
 use Prim.Native.Nat.{ℕ, _+_, _-_, _/_, _%_, _≤_, _<_, _^_}
 use native.Mathlib.Nat.{div-add-mod', mod-lt, mul-le-mul-left}

@@ -1,4 +1,4 @@
--- `script::line_end` meets its contract. Assumes nothing.
+-- `script::line_end` meets its contract (docs/GUIDE.md, The console). Assumes nothing.
 use mathlib.Core.Path.{refl}
 use borrow.Author.Needs.{needs}
 use Rattle.script.proofs.line_end.Statement.{statement}

@@ -1,4 +1,4 @@
--- `script::mean` meets its contract. Assumes nothing.
+-- `script::mean` meets its contract (docs/GUIDE.md, The console). Assumes nothing.
 use Prim.Native.Nat.{_-_}
 use mathlib.Core.Path.{sym, ap, _∙_}
 use native.Mathlib.Omega.{arith}

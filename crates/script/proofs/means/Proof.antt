@@ -1,4 +1,4 @@
--- `script::means` meets its contract. Assumes nothing.
+-- `script::means` meets its contract (docs/GUIDE.md, The console). Assumes nothing.
 use mathlib.Core.Path.{_≡_, sym, ap, _∙_}
 use lib.ListN.{drop}
 use lib.Seq.{drop-drop}

@@ -1,11 +1,11 @@
--- `script::negative` meets its contract. Assumes nothing.
+-- `script::negative` meets its contract (docs/GUIDE.md, The console). Assumes nothing.
 use Prim.Native.Nat.{_-_}
 use mathlib.Core.Path.{_∙_}
 use native.Mathlib.Omega.{arith}
 use lib.IntN.{negsuc}
 use mir.Syntax.{w16}
 use mir.Facts.{toZ-ofZ, toZ-pos}
-use Rattle.profile.proofs.Integer.{less-one}
+use Rattle.rounding.proofs.Parts.{less-one}
 use Rattle.script.proofs.Digits.{below-zero}
 use borrow.Author.Needs.{needs}
 use Rattle.script.proofs.negative.Statement.{statement}

@@ -1,4 +1,4 @@
--- `script::number` meets its contract. The loop's invariant: the digits passed have the value v, which is not too great, and the word has
+-- `script::number` meets its contract (docs/GUIDE.md, The console). The loop's invariant: the digits passed have the value v, which is not too great, and the word has
 -- the value, and is all digits, as what is left of it says. Assumes nothing.
 use Prim.Native.Nat.{_-_, _≤_}
 use mathlib.Core.Path.{_≡_, refl, sym, _∙_}

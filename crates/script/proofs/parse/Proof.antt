@@ -1,4 +1,4 @@
--- `script::parse` meets its contract. Assumes nothing.
+-- `script::parse` meets its contract (docs/GUIDE.md, The console). Assumes nothing.
 use mathlib.Core.Path.{refl, sym, _∙_}
 use native.Mathlib.Omega.{arith}
 use lib.Seq.{length-take-le}

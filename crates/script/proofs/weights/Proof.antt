@@ -1,4 +1,4 @@
--- `script::weights` meets its contract. Assumes nothing.
+-- `script::weights` meets its contract (docs/GUIDE.md, The console). Assumes nothing.
 use Rattle.script.proofs.Split.{words-later}
 use borrow.Author.Needs.{needs}
 use Rattle.script.proofs.weights.Statement.{statement}

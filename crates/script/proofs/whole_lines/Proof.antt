@@ -1,4 +1,4 @@
--- `script::whole_lines` meets its contract. Assumes nothing.
+-- `script::whole_lines` meets its contract (docs/GUIDE.md, The console). Assumes nothing.
 use mathlib.Core.Path.{refl}
 use native.Mathlib.Omega.{arith}
 use borrow.Author.Tests.{le-leb, lt-leb}

@@ -1,4 +1,4 @@
--- `session::answer_text` meets its contract. Assumes nothing.
+-- `session::answer_text` meets its contract (docs/GUIDE.md, The console). Assumes nothing.
 use borrow.Author.Tests.{eq-eqb, ne-eqb}
 use borrow.Author.Needs.{needs}
 use Rattle.session.proofs.answer_text.Statement.{statement}

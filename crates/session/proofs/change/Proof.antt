@@ -1,4 +1,4 @@
--- `session::change` meets its contract. Assumes nothing.
+-- `session::change` meets its contract (docs/GUIDE.md, The console). Assumes nothing.
 use mathlib.Core.Path.{sym}
 use native.Mathlib.Omega.{arith}
 use lib.Seq.{length-take-le}

@@ -1,4 +1,4 @@
--- `session::on_account` meets its contract: each call's own record. Assumes nothing.
+-- `session::on_account` meets its contract (docs/GUIDE.md, The console): each call's own record. Assumes nothing.
 use mathlib.Core.Path.{_∙_}
 use Rattle.account.specs.Account.{account}
 use Rattle.account.specs.Refusals.{readingNumber, withdrawNumber, cutNumber, uncutNumber}

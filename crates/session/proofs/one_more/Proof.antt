@@ -1,4 +1,4 @@
--- `session::one_more` meets its contract. Assumes nothing.
+-- `session::one_more` meets its contract (docs/GUIDE.md, The console). Assumes nothing.
 use borrow.Author.Tests.{lt-ltb, le-ltb}
 use Rattle.script.specs.Numbers.{most64}
 use Rattle.session.proofs.one_more.Statement.{statement}

@@ -1,4 +1,4 @@
--- `session::open_answer` meets its contract. Assumes nothing.
+-- `session::open_answer` meets its contract (docs/GUIDE.md, The console). Assumes nothing.
 use borrow.Author.Tests.{eq-eqb, ne-eqb}
 use borrow.Author.Needs.{needs}
 use Rattle.session.proofs.open_answer.Statement.{statement}

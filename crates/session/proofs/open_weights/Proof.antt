@@ -1,4 +1,4 @@
--- `session::open_weights` meets its contract. Assumes nothing.
+-- `session::open_weights` meets its contract (docs/GUIDE.md, The console). Assumes nothing.
 use mathlib.Core.Path.{_≡_, sym, _∙_}
 use native.Mathlib.Omega.{arith}
 use Rattle.account.specs.Account.{account}

@@ -1,4 +1,4 @@
--- `session::run` meets its contract. The loop's invariant: the answers of the lines passed are gathered, and those left are run from here.
+-- `session::run` meets its contract (docs/GUIDE.md, The console). The loop's invariant: the answers of the lines passed are gathered, and those left are run from here.
 -- Assumes nothing.
 use Prim.Native.Nat.{_+_, _-_, _≤_, _<_}
 use mathlib.Core.Path.{_≡_, refl}

@@ -1,4 +1,4 @@
--- `session::statement` meets its contract. Assumes nothing.
+-- `session::statement` meets its contract (docs/GUIDE.md, The console). Assumes nothing.
 use Prim.Native.Nat.{_+_}
 use mathlib.Core.Path.{sym}
 use native.Mathlib.Omega.{arith}

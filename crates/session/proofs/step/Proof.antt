@@ -1,4 +1,4 @@
--- `session::step` meets its contract: each command by what its call ensures. Assumes nothing.
+-- `session::step` meets its contract (docs/GUIDE.md, The console): each command by what its call ensures. Assumes nothing.
 use mathlib.Core.Path.{refl, sym, ap, _∙_}
 use Rattle.account.specs.Account.{account}
 use Rattle.session.specs.Buffers.{held, laid}

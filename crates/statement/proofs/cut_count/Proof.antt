@@ -1,4 +1,4 @@
--- `statement::cut_count` meets its contract: e × zk fits 64 bits, and a share is at most e. Assumes nothing.
+-- `statement::cut_count` meets its contract (Account and its calls): e × zk fits 64 bits, and a share is at most e. Assumes nothing.
 use native.Mathlib.Nat.{mul-le-mul}
 use native.Mathlib.Omega.{arith}
 use Rattle.statement.specs.Split.{shareOf}

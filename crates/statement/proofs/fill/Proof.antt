@@ -1,4 +1,4 @@
--- `statement::fill` meets its contract. The loop's invariant is `Reached` at the next reading q. Assumes nothing.
+-- `statement::fill` meets its contract (Account and its calls). The loop's invariant is `Reached` at the next reading q. Assumes nothing.
 use mathlib.Core.Path.{sym, _∙_}
 use Prim.Native.Nat.{_+_, _-_, _<_}
 use native.Mathlib.Omega.{arith}

@@ -1,4 +1,4 @@
--- `statement::fill_interval` meets its contract. The loop's invariant is `Within` at boundary k. Assumes nothing.
+-- `statement::fill_interval` meets its contract (Account and its calls). The loop's invariant is `Within` at boundary k. Assumes nothing.
 use mathlib.Core.Path.{sym, _∙_}
 use mathlib.Core.Logic.{⊎-elim}
 use Prim.Native.Nat.{_-_}

@@ -1,4 +1,4 @@
--- `statement::statement` meets its contract: each way to answer is one law of CodeAnswers. Assumes nothing.
+-- `statement::statement` meets its contract (Account and its calls): each way to answer is one law of CodeAnswers. Assumes nothing.
 use mathlib.Core.Path.{_≡_, _∙_}
 use Prim.Native.Nat.{suc}
 use native.Mathlib.Omega.{arith}

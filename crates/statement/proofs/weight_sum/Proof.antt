@@ -1,4 +1,4 @@
--- `statement::weight_sum` meets its contract. The loop's invariant: the sum is that of the days p to i-1. Assumes nothing.
+-- `statement::weight_sum` meets its contract (Account and its calls). The loop's invariant: the sum is that of the days p to i-1. Assumes nothing.
 use mathlib.Core.Path.{_≡_, sym, ap, _∙_}
 use Prim.Native.Nat.{ℕ, _+_, _-_, _≤_}
 use native.Mathlib.Omega.{arith}

@@ -1,4 +1,4 @@
--- `weights::choose` meets its contract: at each `return` the tests that led there say which row of `chosen` holds.
+-- `weights::choose` meets its contract (Temperature of a day): at each `return` the tests that led there say which row of `chosen` holds.
 -- Assumes nothing.
 use borrow.Author.Needs.{needs}
 use borrow.Author.Tests.{le-leb, lt-leb}

@@ -1,4 +1,4 @@
--- `weights::temperature` meets its contract: each `return` has the tests that led there.
+-- `weights::temperature` meets its contract (Temperature of a day): each `return` has the tests that led there.
 -- Assumes nothing.
 use borrow.Author.Needs.{needs, sfits-of}
 use borrow.Author.Tests.{not-true, not-false}

@@ -1,4 +1,4 @@
--- `weights::weights` meets its contract: the tests that lead to each `return` are the condition of one row of the table (`Table`).
+-- `weights::weights` meets its contract (Temperature of a day): the tests that lead to each `return` are the condition of one row of the table (`Table`).
 -- Assumes nothing.
 use native.Mathlib.Omega.{arith}
 use borrow.Author.Tests.{le-ltb}

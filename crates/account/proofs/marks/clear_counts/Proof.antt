@@ -1,4 +1,4 @@
--- `account::marks::clear_counts` meets its contract. The loop's invariant: the counts passed are 0, the others as they were.
+-- `account::marks::clear_counts` meets its contract (Account and its calls). The loop's invariant: the counts passed are 0, the others as they were.
 -- Assumes nothing.
 use Prim.Native.Nat.{_-_}
 use native.Mathlib.Omega.{arith}

@@ -1,4 +1,4 @@
--- `account::marks::first_reading` meets its contract. The loop's invariant: no boundary passed has a reading. Assumes nothing.
+-- `account::marks::first_reading` meets its contract (Account and its calls). The loop's invariant: no boundary passed has a reading. Assumes nothing.
 use Prim.Native.Nat.{_≤_, _-_}
 use native.Mathlib.Numerals.{add-one}
 use native.Mathlib.Omega.{arith}

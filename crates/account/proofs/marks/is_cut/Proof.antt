@@ -1,4 +1,4 @@
--- `account::marks::is_cut` meets its contract: the two tests, one after the other. Assumes nothing.
+-- `account::marks::is_cut` meets its contract (Account and its calls): the two tests, one after the other. Assumes nothing.
 use borrow.Author.Tests.{eq-eqb, ne-eqb}
 use Rattle.account.proofs.marks.is_cut.Statement.{statement}
 use Rattle.account.proofs.marks.is_cut.Tie as tie

@@ -1,4 +1,4 @@
--- `account::marks::last_less_first` meets its contract: the four calls' own contracts, put together. Assumes nothing.
+-- `account::marks::last_less_first` meets its contract (Account and its calls): the four calls' own contracts, put together. Assumes nothing.
 use lib.ListN.{length}
 use Rattle.account.specs.Slices.{readsAt, countAt}
 use Rattle.account.proofs.Spread.{spread-made}

@@ -1,4 +1,4 @@
--- `account::marks::last_reading` meets its contract. The loop's invariant: the last reading is that of the boundaries left.
+-- `account::marks::last_reading` meets its contract (Account and its calls). The loop's invariant: the last reading is that of the boundaries left.
 -- Assumes nothing.
 use Prim.Native.Nat.{_≤_}
 use native.Mathlib.Omega.{arith}

@@ -1,4 +1,4 @@
--- `account::marks::mark_at` meets its contract: past the list's end the list has 0. Assumes nothing.
+-- `account::marks::mark_at` meets its contract (Account and its calls): past the list's end the list has 0. Assumes nothing.
 use mathlib.Core.Path.{sym}
 use borrow.Author.Needs.{needs}
 use lib.ListN.{List·getD-eq-default}

@@ -1,4 +1,4 @@
--- `account::soundness::good_boundaries` meets its contract. The loop's invariant is `Passed`: the boundaries passed are sound, and
+-- `account::soundness::good_boundaries` meets its contract (Account and its calls). The loop's invariant is `Passed`: the boundaries passed are sound, and
 -- `last` is the last reading's count. Assumes nothing.
 use Prim.Native.Nat.{suc, _≤_, _-_, _+_}
 use native.Mathlib.Numerals.{add-one}

@@ -1,4 +1,4 @@
--- `account::soundness::unfit` meets its contract: the tests of row 3, one after the other. Assumes nothing.
+-- `account::soundness::unfit` meets its contract (Account and its calls): the tests of row 3, one after the other. Assumes nothing.
 use Prim.Native.Nat.{ℕ, _+_, _≤_, _<_}
 use mathlib.Core.Path.{_≡_}
 use mathlib.Core.Bool.{true, not}

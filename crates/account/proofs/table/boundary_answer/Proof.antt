@@ -1,4 +1,4 @@
--- `account::table::boundary_answer` meets its contract: rows 3, 5 and 6, one after the other. Assumes nothing.
+-- `account::table::boundary_answer` meets its contract (If a call declines): rows 3, 5 and 6, one after the other. Assumes nothing.
 use mathlib.Core.Path.{_≡_, sym, ap, _∙_}
 use mathlib.Core.Bool.{Bool}
 use native.Mathlib.Omega.{arith}

@@ -1,4 +1,4 @@
--- `account::table::count_with` meets its contract. Assumes nothing.
+-- `account::table::count_with` meets its contract (If a call declines). Assumes nothing.
 use mathlib.Core.Path.{sym, _∙_}
 use Rattle.account.specs.Slices.{countAt}
 use Rattle.account.proofs.With.{put-here, put-other}

@@ -1,4 +1,4 @@
--- `account::table::cut_answer` meets its contract: rows 3, 5 and 6, then 7. Assumes nothing.
+-- `account::table::cut_answer` meets its contract (If a call declines): rows 3, 5 and 6, then 7. Assumes nothing.
 use mathlib.Core.Path.{ap, _∙_}
 use Rattle.account.specs.Account.{account, marksCut}
 use Rattle.account.proofs.Rows.{boundary-next}

@@ -1,4 +1,4 @@
--- `account::table::disagrees` meets its contract: no reading, an earlier one, a later one, or one at k itself. Assumes nothing.
+-- `account::table::disagrees` meets its contract (If a call declines): no reading, an earlier one, a later one, or one at k itself. Assumes nothing.
 use Prim.Native.Nat.{ℕ, _≤_, _<_}
 use native.Mathlib.Nat.{le-of-lt}
 use mathlib.Core.Path.{_≡_, sym, _∙_}

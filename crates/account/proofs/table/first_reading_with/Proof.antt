@@ -1,4 +1,4 @@
--- `account::table::first_reading_with` meets its contract: k, or the first reading without it. Assumes nothing.
+-- `account::table::first_reading_with` meets its contract (If a call declines): k, or the first reading without it. Assumes nothing.
 use Prim.Native.Nat.{ℕ, _≤_, _<_}
 use mathlib.Core.Path.{sym, subst, _∙_}
 use Rattle.account.specs.Slices.{readsAt}

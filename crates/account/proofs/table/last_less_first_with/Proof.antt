@@ -1,4 +1,4 @@
--- `account::table::last_less_first_with` meets its contract: the five calls' own contracts, put together. Assumes nothing.
+-- `account::table::last_less_first_with` meets its contract (If a call declines): the five calls' own contracts, put together. Assumes nothing.
 use mathlib.Core.Bool.{true}
 use lib.ListN.{length}
 use Rattle.account.specs.Stands.{put}

@@ -1,4 +1,4 @@
--- `account::table::next_row` meets its contract. Assumes nothing.
+-- `account::table::next_row` meets its contract (If a call declines). Assumes nothing.
 use Prim.Native.Nat.{ℕ}
 use mathlib.Core.Path.{_≡_, sym, _∙_}
 use mathlib.Core.Bool.{Bool, true, false}

@@ -1,49 +1,42 @@
--- `account::table::out_of_order` meets its contract. The loop's invariant: no boundary passed disagrees. Assumes nothing.
+-- `account::table::out_of_order` meets its contract (If a call declines). The loop's invariant: no boundary passed disagrees. Assumes nothing.
 use Prim.Native.Nat.{ℕ, suc, _+_, _≤_, _<_, _-_}
 use native.Mathlib.Numerals.{add-one}
 use native.Mathlib.Omega.{arith}
 use mathlib.Core.Path.{_≡_, refl, sym, _∙_}
-use mathlib.Core.Bool.{Bool, true, false, _&&_, _||_, or-true}
-use lib.Dec.{ltb}
+use mathlib.Core.Bool.{Bool, true, false, _||_, or-true}
 use lib.ListN.{length}
 use Rattle.account.specs.Below.{somewhere}
 use Rattle.account.specs.Stands.{Readings}
 use Rattle.account.specs.Account.{account, shown}
-use Rattle.account.specs.Refusals.{outOfOrder}
+use Rattle.account.specs.Refusals.{belowEarlier, aboveLater, outOfOrder}
 use Rattle.account.proofs.Below.{neither, some-zero, some-none, some-at}
 use Rattle.account.proofs.table.out_of_order.Statement.{statement}
 use Rattle.account.proofs.table.out_of_order.Tie as tie
 
-abbrev earlier : Readings → ℕ → ℕ → ℕ → Bool
-earlier r k v j = ltb j k && (r .at j && ltb v (r .count j))
-
-abbrev later : Readings → ℕ → ℕ → ℕ → Bool
-later r k v j = ltb k j && (r .at j && ltb (r .count j) v)
-
 -- none of the boundaries below j disagrees
 record Agree (r : Readings) (k v j : ℕ) : Type 0 where
-  low : somewhere (earlier r k v) j ≡ false
-  high : somewhere (later r k v) j ≡ false
+  low : somewhere (belowEarlier r k v) j ≡ false
+  high : somewhere (aboveLater r k v) j ≡ false
 
 module _ (r : Readings) (k v : ℕ) where
   agree-none : Agree r k v 0
   agree-none = record { low = some-zero _; high = some-zero _ }
 
-  agree-more : (j : ℕ) → Agree r k v j → earlier r k v j || later r k v j ≡ false → Agree r k v (suc j)
+  agree-more : (j : ℕ) → Agree r k v j → belowEarlier r k v j || aboveLater r k v j ≡ false → Agree r k v (suc j)
   agree-more j a e =
-      record { low = some-none _ j (a .low) (neither _ _ e .0); high = some-none _ j (a .high) (neither (earlier r k v j) _ e .1) }
+      record { low = some-none _ j (a .low) (neither _ _ e .0); high = some-none _ j (a .high) (neither (belowEarlier r k v j) _ e .1) }
 
   agree-all : (n : ℕ) → Agree r k v (suc n) → false ≡ outOfOrder n r k v
   unfolding outOfOrder
   agree-all n a = rw (a .low, a .high)
 
-  found : (n j : ℕ) → j < suc n → earlier r k v j || later r k v j ≡ true → true ≡ outOfOrder n r k v
+  found : (n j : ℕ) → j < suc n → belowEarlier r k v j || aboveLater r k v j ≡ true → true ≡ outOfOrder n r k v
   unfolding outOfOrder
-  found n j l e = go (earlier r k v j) (later r k v j) refl refl e
+  found n j l e = go (belowEarlier r k v j) (aboveLater r k v j) refl refl e
     where
-      go : (x y : Bool) → earlier r k v j ≡ x → later r k v j ≡ y → x || y ≡ true → true ≡ (somewhere (earlier r k v) (suc n) || somewhere (later r k v) (suc n))
-      go true y f g e = rw (some-at (earlier r k v) (suc n) j l f)
-      go false true f g e = rw (some-at (later r k v) (suc n) j l g) (sym (or-true (somewhere (earlier r k v) (suc n))))
+      go : (x y : Bool) → belowEarlier r k v j ≡ x → aboveLater r k v j ≡ y → x || y ≡ true → true ≡ (somewhere (belowEarlier r k v) (suc n) || somewhere (aboveLater r k v) (suc n))
+      go true y f g e = rw (some-at (belowEarlier r k v) (suc n) j l f)
+      go false true f g e = rw (some-at (aboveLater r k v) (suc n) j l g) (sym (or-true (somewhere (belowEarlier r k v) (suc n))))
       go false false f g e = cc
 
 abbrev Inv-loop : tie.InvT-loop

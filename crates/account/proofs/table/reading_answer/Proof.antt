@@ -1,4 +1,4 @@
--- `account::table::reading_answer` meets its contract: rows 3, 5 and 6, then 7, 8 and 9. Assumes nothing.
+-- `account::table::reading_answer` meets its contract (If a call declines): rows 3, 5 and 6, then 7, 8 and 9. Assumes nothing.
 use Prim.Native.Nat.{ℕ, _≤_, _<_}
 use native.Mathlib.Omega.{arith}
 use mathlib.Core.Path.{_≡_, sym, ap, _∙_}

@@ -1,4 +1,4 @@
--- `account::table::uncut_answer` meets its contract: rows 3, 5 and 6, then 10. Assumes nothing.
+-- `account::table::uncut_answer` meets its contract (If a call declines): rows 3, 5 and 6, then 10. Assumes nothing.
 use mathlib.Core.Path.{ap, _∙_}
 use mathlib.Core.Bool.{not}
 use Rattle.account.specs.Account.{account, marksCut}

@@ -1,4 +1,4 @@
--- `casefile::bytes::number16` meets its contract: two bytes, each below 256. Assumes nothing.
+-- `casefile::bytes::number16` meets its contract (Case file): two bytes, each below 256. Assumes nothing.
 use borrow.Author.Needs.{needs}
 use Prim.Native.Nat.{_+_}
 use native.Mathlib.Omega.{arith}

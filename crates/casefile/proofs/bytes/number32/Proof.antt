@@ -1,4 +1,4 @@
--- `casefile::bytes::number32` meets its contract: the number of its two halves. Assumes nothing.
+-- `casefile::bytes::number32` meets its contract (Case file): the number of its two halves. Assumes nothing.
 use native.Mathlib.Omega.{arith}
 use borrow.Author.Needs.{needs}
 use Rattle.casefile.proofs.Numbers.{halves4}

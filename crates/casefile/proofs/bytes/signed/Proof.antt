@@ -1,4 +1,4 @@
--- `casefile::bytes::signed` meets its contract: the upper half of the numbers stands for the negative ones. Assumes nothing.
+-- `casefile::bytes::signed` meets its contract (Case file): the upper half of the numbers stands for the negative ones. Assumes nothing.
 use borrow.Author.Needs.{needs}
 use native.Mathlib.Omega.{arith}
 use borrow.Author.Tests.{lt-ltb}
@@ -8,7 +8,7 @@ use lib.IntN.{negsuc}
 use mir.Syntax.{w16}
 use mir.Facts.{toZ-ofZ, toZ-pos}
 use Rattle.casefile.specs.Bytes.{signed}
-use Rattle.profile.proofs.Integer.{less-one}
+use Rattle.rounding.proofs.Parts.{less-one}
 use Rattle.casefile.proofs.Numbers.{upper}
 use Rattle.casefile.proofs.bytes.signed.Statement.{statement}
 use Rattle.casefile.proofs.bytes.signed.Tie as tie

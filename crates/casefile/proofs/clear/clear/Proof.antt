@@ -1,4 +1,4 @@
--- `casefile::clear::clear` meets its contract: slice by slice. Assumes nothing.
+-- `casefile::clear::clear` meets its contract (If a call declines): slice by slice. Assumes nothing.
 use Rattle.account.specs.Account.{account}
 use borrow.Author.Needs.{needs}
 use Rattle.casefile.proofs.clear.clear.Statement.{statement}

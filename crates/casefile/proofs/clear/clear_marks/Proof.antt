@@ -1,4 +1,4 @@
--- `casefile::clear::clear_marks` meets its contract: what was passed is 0, the rest as it was. Assumes nothing.
+-- `casefile::clear::clear_marks` meets its contract (If a call declines): what was passed is 0, the rest as it was. Assumes nothing.
 use Prim.Native.Nat.{_-_}
 use native.Mathlib.Omega.{arith}
 use lib.ListN.{length}

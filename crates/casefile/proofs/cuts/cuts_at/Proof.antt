@@ -1,4 +1,4 @@
--- `casefile::cuts::cuts_at` meets its contract. Assumes nothing.
+-- `casefile::cuts::cuts_at` meets its contract (Case file). Assumes nothing.
 use native.Mathlib.Omega.{arith}
 use Rattle.casefile.proofs.Chained.{cuts-unread, cuts-near, cuts-early, cuts-asked, cuts-fault, cuts-left, cuts-read}
 use borrow.Author.Needs.{needs}

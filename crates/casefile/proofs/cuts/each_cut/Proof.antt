@@ -1,4 +1,4 @@
--- `casefile::cuts::each_cut` meets its contract: the cuts before i have no fault and stand in the marks. Assumes nothing.
+-- `casefile::cuts::each_cut` meets its contract (Case file): the cuts before i have no fault and stand in the marks. Assumes nothing.
 use Prim.Native.Nat.{_+_, _*_, _-_, _≤_}
 use native.Mathlib.Omega.{arith}
 use mathlib.Core.Path.{_≡_, refl, sym}

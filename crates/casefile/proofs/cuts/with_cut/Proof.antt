@@ -1,4 +1,4 @@
--- `casefile::cuts::with_cut` meets its contract: the marks one by one. Assumes nothing.
+-- `casefile::cuts::with_cut` meets its contract (Case file): the marks one by one. Assumes nothing.
 use mathlib.Core.Path.{refl}
 use borrow.Author.Tests.{ne-eqb}
 use Rattle.casefile.proofs.cuts.with_cut.Statement.{statement}

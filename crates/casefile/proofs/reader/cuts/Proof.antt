@@ -1,4 +1,4 @@
--- `casefile::reader::cuts` meets its contract: a walk of its MIR, by hand. The reader is taken apart, and `cuts_at` is called on the file, the position, the end of the section before and the lent marks.
+-- `casefile::reader::cuts` meets its contract (Case file): a walk of its MIR, by hand. The reader is taken apart, and `cuts_at` is called on the file, the position, the end of the section before and the lent marks.
 -- What the reader owns is kept whole for the exit, and what the section's end owns is had for nothing. The marks are given up for good (`gave-slice`). All that the proof knows of `cuts_at` is that it meets its contract.
 -- Assumes nothing.
 use mathlib.Core.Path.{_≡_, refl}

@@ -1,4 +1,4 @@
--- `casefile::reader::fill` meets its contract: a walk of its MIR, by hand. The reader is made at the file's start, and goes from section to section; all that the proof knows of `new`, `moved`, `span`, `readings` and `cuts` is that each meets its contract.
+-- `casefile::reader::fill` meets its contract (Case file): a walk of its MIR, by hand. The reader is made at the file's start, and goes from section to section; all that the proof knows of `new`, `moved`, `span`, `readings` and `cuts` is that each meets its contract.
 -- The weights and the counts are given up for good (`gave-slice`). The marks are lent again to `readings`, for a lifetime that is made for the call (`Again.antt`), and then given up to `cuts`.
 -- Assumes nothing.
 use mathlib.Core.Path.{_≡_, refl, _∙_, ap, subst}

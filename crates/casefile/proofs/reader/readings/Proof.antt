@@ -1,4 +1,4 @@
--- `casefile::reader::readings` meets its contract: a walk of its MIR, by hand. The reader is taken apart, and `readings_at` is called on the file, the position, the end of the section before and the lent marks and counts.
+-- `casefile::reader::readings` meets its contract (Case file): a walk of its MIR, by hand. The reader is taken apart, and `readings_at` is called on the file, the position, the end of the section before and the lent marks and counts.
 -- What the reader owns is kept whole for the exit, and what the section's end owns is had for nothing. The marks and counts are given up for good (`gave-slice`). All that the proof knows of `readings_at` is that it meets its contract.
 -- Assumes nothing.
 use mathlib.Core.Path.{_≡_, refl}

@@ -1,4 +1,4 @@
--- `casefile::reader::span` meets its contract: a walk of its MIR, by hand. The reader is taken apart, and `span_at` is called on the file, the position and the lent weights.
+-- `casefile::reader::span` meets its contract (Case file): a walk of its MIR, by hand. The reader is taken apart, and `span_at` is called on the file, the position and the lent weights.
 -- The reader is Copy: what it owns is had twice, and one copy is kept whole for the exit. The weights are given up for good (`gave-slice`). All that the proof knows of `span_at` is that it meets its contract.
 -- Assumes nothing.
 use mathlib.Core.Path.{_≡_, refl}

@@ -1,11 +1,11 @@
--- `casefile::readings::counted` meets its contract: each return rewrites the definition with the tests that led there. Assumes nothing.
+-- `casefile::readings::counted` meets its contract (Case file): each return rewrites the definition with the tests that led there. Assumes nothing.
 use Prim.Native.Nat.{_+_, _-_}
 use mathlib.Core.Path.{refl}
 use native.Mathlib.Omega.{arith}
 use borrow.Author.Tests.{lt-ltb, le-ltb}
 use lib.Dec.{lit<}
 use Rattle.casefile.specs.Bytes.{number64}
-use Rattle.casefile.proofs.Items.{counted-stops}
+use Rattle.casefile.proofs.Items.{reading-stops}
 use borrow.Author.Needs.{needs}
 use Rattle.casefile.proofs.readings.counted.Statement.{statement}
 use Rattle.casefile.proofs.readings.counted.Tie as tie
@@ -25,7 +25,7 @@ bad-requires c κs = search needs
 returns : tie.Need-returns
 returns c =
     let a = c .before .before .before .before .args in
-    counted-stops (lit< tt) (c .bad .ensures) (simp (lt-ltb (number64 (a .file .now) (a .at + 2)) (a .last) (omega arith)))
+    reading-stops (lit< tt) (c .bad .ensures) (simp (lt-ltb (number64 (a .file .now) (a .at + 2)) (a .last) (omega arith)))
 
 sub-if2 : tie.Need-sub-if2
 sub-if2 c = search needs
@@ -40,7 +40,7 @@ returns-2 : tie.Need-returns-2
 returns-2 c =
     let a = c .before .before .before .before .before .args in
     let s = a .file .now in
-    counted-stops (lit< tt) (c .bad2 .ensures)
+    reading-stops (lit< tt) (c .bad2 .ensures)
     (simp (le-ltb (number64 s (a .at + 2)) (a .last) (omega arith), lt-ltb 2000000000 (number64 s (a .at + 2) - a .first) (omega arith)))
 
 returns-3 : tie.Need-returns-3

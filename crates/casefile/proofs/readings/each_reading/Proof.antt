@@ -1,4 +1,4 @@
--- `casefile::readings::each_reading` meets its contract: the readings before i have no fault and stand in marks and counts. Assumes nothing.
+-- `casefile::readings::each_reading` meets its contract (Case file): the readings before i have no fault and stand in marks and counts. Assumes nothing.
 use Prim.Native.Nat.{ℕ, _+_, _*_, _-_, _≤_, _<_}
 use native.Mathlib.Omega.{arith}
 use mathlib.Core.Path.{_≡_, refl, sym, _∙_, ap}

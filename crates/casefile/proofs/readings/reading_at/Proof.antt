@@ -1,4 +1,4 @@
--- `casefile::readings::reading_at` meets its contract: each return rewrites the definition with the tests that led there. Assumes nothing.
+-- `casefile::readings::reading_at` meets its contract (Case file): each return rewrites the definition with the tests that led there. Assumes nothing.
 use Prim.Native.Nat.{_+_}
 use mathlib.Core.Path.{_∙_}
 use native.Mathlib.Omega.{arith}
@@ -6,7 +6,7 @@ use borrow.Author.Tests.{lt-ltb, le-ltb}
 use lib.Dec.{lit<}
 use lib.ListN.{length}
 use Rattle.casefile.specs.Bytes.{number16}
-use Rattle.casefile.proofs.Items.{item-stops}
+use Rattle.casefile.proofs.Items.{reading-stops}
 use borrow.Author.Needs.{needs}
 use Rattle.casefile.proofs.readings.reading_at.Statement.{statement}
 use Rattle.casefile.proofs.readings.reading_at.Tie as tie
@@ -21,7 +21,7 @@ returns : tie.Need-returns
 returns c =
     let s = c .before .before .before .args .file .now in
     let a = c .before .before .before .args in
-    item-stops (lit< tt) (c .bad .ensures) (simp (lt-ltb (length s) (a .at + 10) (omega arith)))
+    reading-stops (lit< tt) (c .bad .ensures) (simp (lt-ltb (length s) (a .at + 10) (omega arith)))
 
 number16-requires : tie.Need-number16-requires
 number16-requires c κs = search needs
@@ -33,7 +33,7 @@ returns-2 : tie.Need-returns-2
 returns-2 c =
     let s = c .before .before .before .before .before .args .file .now in
     let a = c .before .before .before .before .before .args in
-    item-stops (lit< tt) (c .bad2 .ensures) (simp (le-ltb (length s) (a .at + 10) (omega arith), lt-ltb (number16 s (a .at)) (a .low) (omega arith)))
+    reading-stops (lit< tt) (c .bad2 .ensures) (simp (le-ltb (length s) (a .at + 10) (omega arith), lt-ltb (number16 s (a .at)) (a .low) (omega arith)))
 
 bad-requires-3 : tie.Need-bad-requires-3
 bad-requires-3 c κs = search needs
@@ -42,7 +42,7 @@ returns-3 : tie.Need-returns-3
 returns-3 c =
     let s = c .before .before .before .before .before .before .args .file .now in
     let a = c .before .before .before .before .before .before .args in
-    item-stops (lit< tt) (c .bad3 .ensures) (simp (le-ltb (length s) (a .at + 10) (omega arith), le-ltb (number16 s (a .at)) (a .low) (omega arith), lt-ltb (a .days) (number16 s (a .at)) (omega arith)))
+    reading-stops (lit< tt) (c .bad3 .ensures) (simp (le-ltb (length s) (a .at + 10) (omega arith), le-ltb (number16 s (a .at)) (a .low) (omega arith), lt-ltb (a .days) (number16 s (a .at)) (omega arith)))
 
 counted-requires : tie.Need-counted-requires
 counted-requires c κs = search needs

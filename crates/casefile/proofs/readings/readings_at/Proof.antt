@@ -1,4 +1,4 @@
--- `casefile::readings::readings_at` meets its contract. Assumes nothing.
+-- `casefile::readings::readings_at` meets its contract (Case file). Assumes nothing.
 use native.Mathlib.Omega.{arith}
 use Rattle.casefile.proofs.Chained.{readings-unread, readings-near, readings-early, readings-asked, readings-read}
 use borrow.Author.Needs.{needs}

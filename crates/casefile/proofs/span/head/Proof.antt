@@ -1,4 +1,4 @@
--- `casefile::span::head` meets its contract: each return rewrites the definition with the tests that led there. Assumes nothing.
+-- `casefile::span::head` meets its contract (Case file): each return rewrites the definition with the tests that led there. Assumes nothing.
 use native.Mathlib.Omega.{arith}
 use mathlib.Core.Path.{_≡_, refl, ap}
 use borrow.Author.Tests.{lt-ltb, le-ltb, lt-leb, le-leb}

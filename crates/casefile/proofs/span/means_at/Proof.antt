@@ -1,4 +1,4 @@
--- `casefile::span::means_at` meets its contract: the means before i have no fault and stand in the buffer. Assumes nothing.
+-- `casefile::span::means_at` meets its contract (Case file): the means before i have no fault and stand in the buffer. Assumes nothing.
 use Prim.Native.Nat.{_+_, _*_, _-_, _≤_}
 use native.Mathlib.Omega.{arith}
 use mathlib.Core.Path.{_≡_, refl, sym, _∙_, ap}

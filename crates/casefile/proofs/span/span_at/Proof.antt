@@ -1,4 +1,4 @@
--- `casefile::span::span_at` meets its contract: the head, then the means, then their weights, each only where the one before has no fault.
+-- `casefile::span::span_at` meets its contract (Case file): the head, then the means, then their weights, each only where the one before has no fault.
 -- Assumes nothing.
 use native.Mathlib.Omega.{arith}
 use Rattle.casefile.proofs.Weighing.{head-fault, known, asked, means-fault, weighable, spans}

@@ -1,4 +1,4 @@
--- `casefile::span::weigh` meets its contract: the weights call has what it asks, and the rest of the slice is zero. Assumes nothing.
+-- `casefile::span::weigh` meets its contract (Case file): the weights call has what it asks, and the rest of the slice is zero. Assumes nothing.
 use native.Mathlib.Omega.{arith}
 use lib.ListN.{length-take}
 use borrow.Author.Needs.{needs}

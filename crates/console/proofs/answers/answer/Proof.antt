@@ -1,4 +1,4 @@
--- `console::answers::answer` meets its contract. The loop's invariant: what the script's text still has is what the lines from here on print.
+-- `console::answers::answer` meets its contract (docs/GUIDE.md, The console). The loop's invariant: what the script's text still has is what the lines from here on print.
 -- The measure is the part of the script that is left. Assumes nothing.
 use Prim.Native.Nat.{_-_, _≤_}
 use mathlib.Core.Path.{_≡_, refl, sym, _∙_}

@@ -1,4 +1,4 @@
--- `console::input::read` meets its contract, and reads once. Assumes nothing.
+-- `console::input::read` meets its contract (docs/GUIDE.md, The console), and reads once. Assumes nothing.
 use mathlib.Core.Path.{refl}
 use borrow.Author.Needs.{needs}
 use Rattle.console.specs.Traces.{ReadsScript}

@@ -1,4 +1,4 @@
--- `console::printer::counted` meets its contract, and calls nothing. Assumes nothing.
+-- `console::printer::counted` meets its contract (docs/GUIDE.md, The console), and calls nothing. Assumes nothing.
 use mathlib.Core.Path.{refl}
 use borrow.Author.Needs.{needs}
 use Rattle.console.specs.Traces.{Counts}

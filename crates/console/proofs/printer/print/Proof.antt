@@ -1,4 +1,4 @@
--- `console::printer::print` meets its contract: the text of a script is so short that its bytes have a number of 64 bits. It writes once. Assumes nothing.
+-- `console::printer::print` meets its contract (docs/GUIDE.md, The console): the text of a script is so short that its bytes have a number of 64 bits. It writes once. Assumes nothing.
 use mathlib.Core.Path.{refl}
 use native.Mathlib.Omega.{arith}
 use borrow.Author.Needs.{needs}

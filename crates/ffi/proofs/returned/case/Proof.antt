@@ -1,4 +1,4 @@
--- `ffi::returned::case` meets its contract: each arm is told its variant. Assumes nothing.
+-- `ffi::returned::case` meets its contract (If a call declines): each arm is told its variant. Assumes nothing.
 use mathlib.Core.Path.{sym, ap, _∙_}
 use borrow.Author.Needs.{needs}
 use Rattle.casefile.specs.declared.CaseAnswer.{CaseAnswer}

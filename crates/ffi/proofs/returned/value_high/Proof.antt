@@ -1,4 +1,4 @@
--- `ffi::returned::value_high` meets its contract: each arm is told its variant, and that the signed number in it fits. Assumes nothing.
+-- `ffi::returned::value_high` meets its contract (If a call declines): each arm is told its variant, and that the signed number in it fits. Assumes nothing.
 use mathlib.Core.Path.{sym, ap, _∙_}
 use borrow.Author.Needs.{needs, sfits-of}
 use mir.Facts.{toZ-ofZ}

@@ -1,4 +1,4 @@
--- `layout::put::digits`, which calls itself, meets its contract: the digits before the last are those of a tenth of the number. The measure is the
+-- `layout::put::digits`, which calls itself, meets its contract (Case file): the digits before the last are those of a tenth of the number. The measure is the
 -- number. Assumes nothing.
 use Prim.Native.Nat.{ℕ, _/_, _<_}
 use mathlib.Core.Path.{sym}

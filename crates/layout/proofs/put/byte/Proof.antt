@@ -1,4 +1,4 @@
--- `layout::put::byte` meets its contract: past the end of the slice a store changes nothing. Assumes nothing.
+-- `layout::put::byte` meets its contract (Case file): past the end of the slice a store changes nothing. Assumes nothing.
 use mathlib.Core.Path.{refl, sym}
 use borrow.Author.Needs.{needs}
 use lib.Seq.{set-out}

@@ -1,4 +1,4 @@
--- `layout::put::number` meets its contract: the digits, at most 20, and the byte after them. Assumes nothing.
+-- `layout::put::number` meets its contract (Case file): the digits, at most 20, and the byte after them. Assumes nothing.
 use native.Mathlib.Omega.{arith}
 use borrow.Author.Needs.{needs}
 use Rattle.layout.proofs.Decimal.{decimal-most}

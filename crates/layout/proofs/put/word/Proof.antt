@@ -1,4 +1,4 @@
--- `layout::put::word` meets its contract. The loop's invariant: what is left of the word, stored from here, gives the whole word stored.
+-- `layout::put::word` meets its contract (Case file). The loop's invariant: what is left of the word, stored from here, gives the whole word stored.
 -- Assumes nothing.
 use mathlib.Core.Path.{_≡_, refl, _∙_, sym, ap}
 use mathlib.Core.List.{List}

@@ -1,4 +1,4 @@
--- `power::rounded::next_root` meets its contract, case by case as its definition.
+-- `power::rounded::next_root` meets its contract (Profile value), case by case as its definition.
 -- Assumes nothing.
 use mathlib.Core.Path.{_≡_}
 use Prim.Native.Nat.{ℕ, _*_, _≤_}

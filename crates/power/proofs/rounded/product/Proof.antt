@@ -1,4 +1,4 @@
--- `power::rounded::product` meets its contract.
+-- `power::rounded::product` meets its contract (Profile value).
 -- Assumes nothing.
 use native.Mathlib.Nat.{mul-le-mul}
 use native.Mathlib.Omega.{arith}

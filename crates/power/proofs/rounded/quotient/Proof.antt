@@ -1,4 +1,4 @@
--- `power::rounded::quotient` meets its contract, case by case as its definition.
+-- `power::rounded::quotient` meets its contract (Profile value), case by case as its definition.
 -- Assumes nothing.
 use borrow.Author.Needs.{needs}
 use Rattle.power.specs.Power.{quotient}

@@ -1,4 +1,4 @@
--- `power::rounded::root_down` meets its contract. The loop's invariant: s is at most one and not below the root of x. The measure is s.
+-- `power::rounded::root_down` meets its contract (Profile value). The loop's invariant: s is at most one and not below the root of x. The measure is s.
 -- Assumes nothing.
 use Prim.Native.Nat.{_+_, _*_, _≤_, _<_}
 use native.Mathlib.Nat.{mul-le-mul, mul-div-cancel, div-le-self}

@@ -1,4 +1,4 @@
--- `printing::input::read` meets its contract, and reads once. Assumes nothing.
+-- `printing::input::read` meets its contract (Case file), and reads once. Assumes nothing.
 use mathlib.Core.Path.{refl}
 use borrow.Author.Needs.{needs}
 use Rattle.printing.specs.Traces.{ReadsFile}

@@ -1,4 +1,4 @@
--- `printing::output::print` counts the bytes of the text that it was handed, and writes them once. Assumes nothing.
+-- `printing::output::print` (Case file) counts the bytes of the text that it was handed, and writes them once. Assumes nothing.
 use mathlib.Core.Path.{refl, ap}
 use lib.ListN.{length}
 use borrow.Author.Needs.{needs}

@@ -1,4 +1,4 @@
--- `profile::Profile::by_number` meets its contract: above 9 there is no profile in the table, and the limits are the numerals of the definitions.
+-- `profile::Profile::by_number` meets its contract (Profiles): above 9 there is no profile in the table, and the limits are the numerals of the definitions.
 -- Assumes nothing.
 use mathlib.Core.Path.{sym}
 use Prim.Native.Nat.{_≤_}

@@ -1,4 +1,4 @@
--- `profile::curve::curve_down` meets its contract: A × 100 × s is below 2^61.
+-- `profile::curve::curve_down` meets its contract (Profile value): A × 100 × s is below 2^61.
 -- Assumes nothing.
 use Prim.Native.Nat.{_*_, _^_, _<_}
 use native.Mathlib.Omega.{arith}

@@ -1,4 +1,4 @@
--- `profile::curve::curve_up` meets its contract: A × 100 × s is below 2^61.
+-- `profile::curve::curve_up` meets its contract (Profile value): A × 100 × s is below 2^61.
 -- Assumes nothing.
 use mathlib.Core.Path.{_∙_, ap}
 use lib.IntN.{pos}

@@ -1,4 +1,4 @@
--- `profile::curve::distance` meets its contract: 4,000 - t is 1 to 9,000, so that times 100,000 fits 32 bits.
+-- `profile::curve::distance` meets its contract (Profile value): 4,000 - t is 1 to 9,000, so that times 100,000 fits 32 bits.
 -- Assumes nothing.
 use native.Mathlib.Omega.{arith}
 use lib.IntN.{pos, _-ℤ_}

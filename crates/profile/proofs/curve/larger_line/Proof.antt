@@ -1,4 +1,4 @@
--- `profile::curve::larger_line` meets its contract: its test of the two lines is that of the definition.
+-- `profile::curve::larger_line` meets its contract (Profile value): its test of the two lines is that of the definition.
 -- Assumes nothing.
 use mathlib.Core.Path.{_≡_}
 use borrow.Author.Needs.{needs}

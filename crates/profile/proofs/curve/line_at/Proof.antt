@@ -1,4 +1,4 @@
--- `profile::curve::line_at` meets its contract: |m × t| is at most 2^46 and |100 × b| at most 100 × 2^31, so nothing wraps.
+-- `profile::curve::line_at` meets its contract (Profile value): |m × t| is at most 2^46 and |100 × b| at most 100 × 2^31, so nothing wraps.
 -- Assumes nothing.
 use mathlib.Core.Path.{refl}
 use Prim.Native.Nat.{_*_, _^_, _≤_}

@@ -1,4 +1,4 @@
--- `profile::curve::linear_at` meets its contract: 100 × D is below 2^39 and the larger line at most 2^47, so the sum fits.
+-- `profile::curve::linear_at` meets its contract (Profile value): 100 × D is below 2^39 and the larger line at most 2^47, so the sum fits.
 -- Assumes nothing.
 use mathlib.Core.Path.{ap}
 use Prim.Native.Nat.{_*_}

@@ -1,4 +1,4 @@
--- `profile::curve::low_share` meets its contract: the side is that of the definition, and a power is at most one.
+-- `profile::curve::low_share` meets its contract (Profile value): the side is that of the definition, and a power is at most one.
 -- Assumes nothing.
 use mathlib.Core.Path.{_≡_, _∙_, sym}
 use Prim.Native.Nat.{_^_, _≤_}

@@ -1,4 +1,4 @@
--- `profile::curve::magnitude` meets its contract: at 64 bits the negation of a 32-bit number fits.
+-- `profile::curve::magnitude` meets its contract (Profile value): at 64 bits the negation of a 32-bit number fits.
 -- Assumes nothing.
 use mathlib.Core.Path.{_≡_, ap}
 use mathlib.Core.Bool.{true, false, true≢false}

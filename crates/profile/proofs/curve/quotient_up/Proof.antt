@@ -1,4 +1,4 @@
--- `profile::curve::quotient_up` meets its contract. Assumes nothing.
+-- `profile::curve::quotient_up` meets its contract (Profile value). Assumes nothing.
 use borrow.Author.Needs.{needs}
 use Rattle.power.specs.Power.{quotient}
 use Rattle.profile.proofs.curve.quotient_up.Statement.{statement}

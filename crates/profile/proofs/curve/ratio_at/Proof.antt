@@ -1,4 +1,4 @@
--- `profile::curve::ratio_at` meets its contract: its test of b and u is that of the definition.
+-- `profile::curve::ratio_at` meets its contract (Profile value): its test of b and u is that of the definition.
 -- Assumes nothing.
 use mathlib.Core.Path.{_≡_, sym}
 use mathlib.Core.Bool.{true, false}

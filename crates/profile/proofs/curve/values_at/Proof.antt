@@ -1,4 +1,4 @@
--- `profile::curve::values_at` meets its contract: its two sums are the values, which fit 64 bits over the whole table.
+-- `profile::curve::values_at` meets its contract (Profile value): its two sums are the values, which fit 64 bits over the whole table.
 -- Assumes nothing.
 use mathlib.Core.Path.{_≡_, _∙_, ap}
 use Prim.Native.Nat.{_^_, _<_, _≤_}

@@ -1,4 +1,4 @@
--- `profile::curve::weight_at` meets its contract: its sum is the low value, a natural number of at most 10^10 over the whole table,
+-- `profile::curve::weight_at` meets its contract (Profile value): its sum is the low value, a natural number of at most 10^10 over the whole table,
 -- so its quotient is the floor, and at most 6,999,999. Assumes nothing.
 use mathlib.Core.Path.{_≡_, _∙_, ap}
 use Prim.Native.Nat.{ℕ, _*_, _/_, _^_, _≤_}

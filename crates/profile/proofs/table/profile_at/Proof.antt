@@ -1,4 +1,4 @@
--- `profile::table::profile_at` meets its contract: the code's table is that of the definitions, by computation.
+-- `profile::table::profile_at` meets its contract (Profiles): the code's table is that of the definitions, by computation.
 -- Assumes nothing.
 use borrow.Author.Needs.{needs}
 use Rattle.profile.specs.Coefficients.{table, noProfile, profileOf}

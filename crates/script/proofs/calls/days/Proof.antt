@@ -1,4 +1,4 @@
--- `script::calls::days` meets its contract. Assumes nothing.
+-- `script::calls::days` meets its contract (docs/GUIDE.md, The console). Assumes nothing.
 use mathlib.Core.Path.{sym, ap, _∙_}
 use Rattle.script.specs.Calls.{daysCall}
 use Rattle.script.proofs.Split.{between, words-end, word-within}

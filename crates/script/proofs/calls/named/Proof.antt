@@ -1,4 +1,4 @@
--- `script::calls::named` meets its contract. Assumes nothing.
+-- `script::calls::named` meets its contract (docs/GUIDE.md, The console). Assumes nothing.
 use mathlib.Core.Path.{refl, sym, ap, _∙_}
 use Rattle.script.specs.Calls.{statementCall}
 use Rattle.script.proofs.Split.{words-next, words-end}
@@ -12,18 +12,18 @@ slice-aggregate-same c = search needs
 same-requires : tie.Need-same-requires
 same-requires c κs = search needs
 
-all-weights-requires : tie.Need-all-weights-requires
-all-weights-requires c κs = search needs
+all-of-requires : tie.Need-all-of-requires
+all-of-requires c κs = search needs
 
 returns : tie.Need-returns
 returns c =
     let one = sym (c .before .before .before .same .ensures) ∙ c .before .before .if1 .taken in
-    simp (one, sym (c .before .all-weights .ensures) ∙ c .if2 .taken)
+    simp (one, sym (c .before .all-of .ensures) ∙ c .if2 .taken)
 
 returns-2 : tie.Need-returns-2
 returns-2 c =
     let one = sym (c .before .before .before .same .ensures) ∙ c .before .before .if1 .taken in
-    simp (one, sym (c .before .all-weights .ensures) ∙ c .if2 .left)
+    simp (one, sym (c .before .all-of .ensures) ∙ c .if2 .left)
 
 slice-aggregate-same-2 : tie.Need-slice-aggregate-same-2
 slice-aggregate-same-2 c = search needs
@@ -97,7 +97,7 @@ named-spec =
     (tie.spec
     slice-aggregate-same
     same-requires
-    all-weights-requires
+    all-of-requires
     returns
     returns-2
     slice-aggregate-same-2

@@ -1,4 +1,4 @@
--- `script::calls::on_boundary` meets its contract. Assumes nothing.
+-- `script::calls::on_boundary` meets its contract (docs/GUIDE.md, The console). Assumes nothing.
 use mathlib.Core.Path.{sym, ap, _∙_}
 use Rattle.script.specs.declared.Decimal.{Decimal}
 use Rattle.script.specs.Calls.{with, boundaryCall}

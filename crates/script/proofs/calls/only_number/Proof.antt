@@ -1,4 +1,4 @@
--- `script::calls::only_number` meets its contract. Assumes nothing.
+-- `script::calls::only_number` meets its contract (docs/GUIDE.md, The console). Assumes nothing.
 use mathlib.Core.Path.{refl, sym, ap, _∙_}
 use Rattle.script.specs.Calls.{onlyNumber}
 use Rattle.script.proofs.Split.{words-next, words-then, words-end, word-within}

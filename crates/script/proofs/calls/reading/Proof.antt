@@ -1,4 +1,4 @@
--- `script::calls::reading` meets its contract. Assumes nothing.
+-- `script::calls::reading` meets its contract (docs/GUIDE.md, The console). Assumes nothing.
 use mathlib.Core.Path.{refl, sym, ap, _∙_}
 use Rattle.script.specs.Calls.{readingCall}
 use Rattle.script.proofs.Split.{words-end, word-within}

@@ -1,4 +1,4 @@
--- `script::calls::weekday_and_means` meets its contract. Assumes nothing.
+-- `script::calls::weekday_and_means` meets its contract (docs/GUIDE.md, The console). Assumes nothing.
 use mathlib.Core.Path.{sym, ap, _∙_}
 use Rattle.script.specs.Calls.{provided, weekdayAndMeans}
 use Rattle.script.proofs.Split.{between, words-end, word-within}
@@ -50,11 +50,11 @@ returns-2 c =
     let told = sym (c .before .before .number .ensures) ∙ c .enum-told .given .1 in
     sym (weekday-of (a .line .now) (a .end) (next .next .result) (next .before .if1 .left) (next .next .ensures) _ (a .profile) told)
 
-all-means-requires : tie.Need-all-means-requires
-all-means-requires c κs = search needs
+all-of-requires : tie.Need-all-of-requires
+all-of-requires c κs = search needs
 
-cast-t14 : tie.Need-cast-t14
-cast-t14 c =
+cast-t15 : tie.Need-cast-t15
+cast-t15 c =
     let next = c .before .before .before .before .before .before .before in
     let a = next .before .before .before .args in
     let told = sym (c .before .before .before .before .before .number .ensures) ∙ c .before .before .before .weekday .given .1 in
@@ -65,7 +65,7 @@ returns-3 c =
     let next = c .before .before .before .before .before .before .before in
     let a = next .before .before .before .args in
     let told = sym (c .before .before .before .before .before .number .ensures) ∙ c .before .before .before .weekday .given .1 in
-    let all = sym (c .before .all-means .ensures) ∙ c .if2 .taken in
+    let all = sym (c .before .all-of .ensures) ∙ c .if2 .taken in
     sym (weekday-of (a .line .now) (a .end) (next .next .result) (next .before .if1 .left) (next .next .ensures) _ (a .profile) told ∙
     ap (λ (x : Bool). provided x (Days (a .profile) (c .before .before .before .weekday .given .0 .0))) all)
 
@@ -74,7 +74,7 @@ returns-4 c =
     let next = c .before .before .before .before .before .before .before in
     let a = next .before .before .before .args in
     let told = sym (c .before .before .before .before .before .number .ensures) ∙ c .before .before .before .weekday .given .1 in
-    let all = sym (c .before .all-means .ensures) ∙ c .if2 .left in
+    let all = sym (c .before .all-of .ensures) ∙ c .if2 .left in
     sym (weekday-of (a .line .now) (a .end) (next .next .result) (next .before .if1 .left) (next .next .ensures) _ (a .profile) told ∙
     ap (λ (x : Bool). provided x (Days (a .profile) (c .before .before .before .weekday .given .0 .0))) all)
 
@@ -93,7 +93,7 @@ weekday-and-means-spec =
     enum-known-weekday
     enum-told
     returns-2
-    all-means-requires
-    cast-t14
+    all-of-requires
+    cast-t15
     returns-3
     returns-4)

@@ -1,4 +1,4 @@
--- `script::lists::means_from` meets its contract. The loop's invariant: the values of the words passed are stored, as far as they fit. Assumes nothing.
+-- `script::lists::means_from` meets its contract (docs/GUIDE.md, The console). The loop's invariant: the values of the words passed are stored, as far as they fit. Assumes nothing.
 use Prim.Native.Nat.{_-_, _≤_}
 use mathlib.Core.Path.{_≡_, sym, ap, _∙_}
 use mathlib.Core.Logic.{⊎-elim}

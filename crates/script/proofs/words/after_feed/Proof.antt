@@ -1,4 +1,4 @@
--- `script::words::after_feed` meets its contract. The loop's invariant: the last line feed is the last one before here. Assumes nothing.
+-- `script::words::after_feed` meets its contract (docs/GUIDE.md, The console). The loop's invariant: the last line feed is the last one before here. Assumes nothing.
 use Prim.Native.Nat.{_-_, _≤_}
 use mathlib.Core.Path.{_≡_, refl, sym, _∙_}
 use native.Mathlib.Omega.{arith}

@@ -1,4 +1,4 @@
--- `script::words::after_word` meets its contract. Assumes nothing.
+-- `script::words::after_word` meets its contract (docs/GUIDE.md, The console). Assumes nothing.
 use Prim.Native.Nat.{ℕ}
 use mathlib.Core.Path.{sym, ap, _∙_}
 use mathlib.Core.List.{List}

@@ -1,4 +1,4 @@
--- `script::words::next` meets its contract. The loop's invariant: the next byte from here is the one asked for. Assumes nothing.
+-- `script::words::next` meets its contract (docs/GUIDE.md, The console). The loop's invariant: the next byte from here is the one asked for. Assumes nothing.
 use Prim.Native.Nat.{_-_}
 use mathlib.Core.Path.{_≡_, refl, sym, _∙_}
 use native.Mathlib.Omega.{arith}

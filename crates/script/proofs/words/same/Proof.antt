@@ -1,4 +1,4 @@
--- `script::words::same` meets its contract. The loop's invariant: the texts are the same if what is left of them is. Assumes nothing.
+-- `script::words::same` meets its contract (docs/GUIDE.md, The console). The loop's invariant: the texts are the same if what is left of them is. Assumes nothing.
 use Prim.Native.Nat.{_-_}
 use mathlib.Core.Path.{_≡_, refl, sym, _∙_}
 use native.Mathlib.Omega.{arith}

@@ -1,4 +1,4 @@
--- `session::gathered::gather` meets its contract. Assumes nothing.
+-- `session::gathered::gather` meets its contract (docs/GUIDE.md, The console). Assumes nothing.
 use borrow.Author.Needs.{needs}
 use Rattle.account.specs.Account.{account}
 use Rattle.session.specs.Lines.{session}

@@ -1,4 +1,4 @@
--- `session::open::copy` meets its contract. The loop's invariant: what is passed is copied. Assumes nothing.
+-- `session::open::copy` meets its contract (docs/GUIDE.md, The console). The loop's invariant: what is passed is copied. Assumes nothing.
 use Prim.Native.Nat.{ℕ, _-_, _≤_}
 use mathlib.Core.Path.{_≡_, refl, ap, _∙_}
 use mathlib.Core.List.{List, _++_}

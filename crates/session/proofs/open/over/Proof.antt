@@ -1,4 +1,4 @@
--- `session::open::over` meets its contract. Assumes nothing.
+-- `session::open::over` meets its contract (docs/GUIDE.md, The console). Assumes nothing.
 use mathlib.Core.Path.{_≡_, refl, sym, _∙_}
 use native.Mathlib.Omega.{arith}
 use lib.ListN.{take}

@@ -1,4 +1,4 @@
--- `session::open::over_means` meets its contract. Assumes nothing.
+-- `session::open::over_means` meets its contract (docs/GUIDE.md, The console). Assumes nothing.
 use Prim.Native.Nat.{_-_}
 use mathlib.Core.Path.{sym, _∙_}
 use native.Mathlib.Omega.{arith}

@@ -1,4 +1,4 @@
--- `statement::clear::clear_boundaries` meets its contract: the account's law of clearing loops. Assumes nothing.
+-- `statement::clear::clear_boundaries` meets its contract (If a call declines): the account's law of clearing loops. Assumes nothing.
 use Prim.Native.Nat.{_-_}
 use native.Mathlib.Omega.{arith}
 use lib.ListN.{length}

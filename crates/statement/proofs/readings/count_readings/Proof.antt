@@ -1,4 +1,4 @@
--- `statement::readings::count_readings` meets its contract. The loop's invariant: the readings below boundary i are counted. Assumes nothing.
+-- `statement::readings::count_readings` meets its contract (Account and its calls). The loop's invariant: the readings below boundary i are counted. Assumes nothing.
 use mathlib.Core.Path.{_≡_, refl, sym, ap, _∙_}
 use mathlib.Core.Logic.{⊎-elim}
 use Prim.Native.Nat.{ℕ, _+_, _-_, _≤_}

@@ -1,4 +1,4 @@
--- `statement::readings::is_reading` meets its contract: its two tests are those of `marksReading`. Assumes nothing.
+-- `statement::readings::is_reading` meets its contract (Account and its calls): its two tests are those of `marksReading`. Assumes nothing.
 use borrow.Author.Tests.{eq-eqb, ne-eqb}
 use Rattle.statement.proofs.readings.is_reading.Statement.{statement}
 use Rattle.statement.proofs.readings.is_reading.Tie as tie

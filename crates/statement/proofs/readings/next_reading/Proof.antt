@@ -1,4 +1,4 @@
--- `statement::readings::next_reading` meets its contract. The loop's invariant: no reading from k to i. Assumes nothing.
+-- `statement::readings::next_reading` meets its contract (Account and its calls). The loop's invariant: no reading from k to i. Assumes nothing.
 use mathlib.Core.Path.{_≡_, sym, _∙_}
 use mathlib.Core.Bool.{false}
 use Prim.Native.Nat.{ℕ, _-_, _≤_, _<_}

@@ -1,4 +1,4 @@
--- `weights::days::clear` meets its contract: the elements passed are 0.
+-- `weights::days::clear` meets its contract (Temperature of a day): the elements passed are 0.
 -- Assumes nothing.
 use borrow.Author.Needs.{needs}
 use native.Mathlib.Omega.{arith}

@@ -1,4 +1,4 @@
--- `weights::days::fill` meets its contract: the elements passed are the weights of the days passed.
+-- `weights::days::fill` meets its contract (Temperature of a day): the elements passed are the weights of the days passed.
 -- Assumes nothing.
 use borrow.Author.Needs.{needs, sfits-of}
 use mathlib.Core.Path.{_≡_, _∙_, ap}

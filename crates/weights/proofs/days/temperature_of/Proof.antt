@@ -1,4 +1,4 @@
--- `weights::days::temperature_of` meets its contract: the four means that it passes on are in range, and so is their temperature.
+-- `weights::days::temperature_of` meets its contract (Temperature of a day): the four means that it passes on are in range, and so is their temperature.
 -- Assumes nothing.
 use borrow.Author.Needs.{needs, sfits-of}
 use mathlib.Core.Path.{_≡_, _∙_, ap}

@@ -1,4 +1,4 @@
--- `weights::days::weight_at` meets its contract: `day_weight` refuses nothing here.
+-- `weights::days::weight_at` meets its contract (Temperature of a day): `day_weight` refuses nothing here.
 -- Assumes nothing.
 use borrow.Author.Needs.{needs}
 use borrow.Author.Tests.{lt-leb, le-ltb}
@@ -10,7 +10,7 @@ use lib.IntN.{ℤ}
 use mir.Facts.{toZ-ofZ}
 use Rattle.profile.specs.Limits.{inRange, profileCount}
 use Rattle.profile.specs.Weight.{weightOf}
-use Rattle.profile.specs.Answers.{WeightMet, weightAnswered, weightGiven}
+use Rattle.profile.specs.Answers.{WeightMet, weightAnswered, weightPlaced, weightGiven}
 use Rattle.profile.specs.declared.WeightAnswer.{WeightAnswer}
 use Rattle.weights.proofs.days.weight_at.Statement.{statement}
 use Rattle.weights.proofs.days.weight_at.Tie as tie
@@ -34,7 +34,7 @@ never : {n m : ℕ} → n ≡ 0 → n ≡ suc m → ⊥
 never p q = omega arith
 
 -- where no row holds, the answer has number 0 and the weight
-accepted : (k w : ℕ) (t : ℤ) (r : WeightAnswer) → k < profileCount → w < 7 → inRange t ≡ true → WeightMet k w t r
+accepted : (k w : ℕ) (t : ℤ) (r : WeightAnswer) → k < profileCount → w < 7 → inRange t ≡ true → WeightMet k w t (weightAnswered r) (weightPlaced r) (weightGiven r)
     → (weightAnswered r ≡ 0) × (weightGiven r ≡ weightOf k w t)
 accepted k w t r hk hw ht m =
     let e = lt-leb profileCount k hk in

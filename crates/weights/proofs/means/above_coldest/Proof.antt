@@ -1,4 +1,4 @@
--- `weights::means::above_coldest` meets its contract: a mean in range less the coldest one is its raised number.
+-- `weights::means::above_coldest` meets its contract (Temperature of a day): a mean in range less the coldest one is its raised number.
 -- Assumes nothing.
 use native.Mathlib.Omega.{arith}
 use mir.Syntax.{w16}

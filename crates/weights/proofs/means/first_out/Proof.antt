@@ -1,4 +1,4 @@
--- `weights::means::first_out` meets its contract. The invariant: the first mean out of range of the whole series is that of the rest, after the means passed.
+-- `weights::means::first_out` meets its contract (Temperature of a day). The invariant: the first mean out of range of the whole series is that of the rest, after the means passed.
 -- Assumes nothing.
 use borrow.Author.Needs.{needs, sfits-of}
 use borrow.Author.Tests.{not-true, not-false}

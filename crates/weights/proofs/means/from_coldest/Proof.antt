@@ -1,4 +1,4 @@
--- `weights::means::from_coldest` meets its contract: the number is small enough for 16 bits before and after 5,000 are taken off.
+-- `weights::means::from_coldest` meets its contract (Temperature of a day): the number is small enough for 16 bits before and after 5,000 are taken off.
 -- Assumes nothing.
 use borrow.Author.Needs.{needs}
 use native.Mathlib.Omega.{arith}

@@ -1,4 +1,4 @@
--- `weights::means::of_four` meets its contract: the rule of the four means, on raised ones (`Raised.of-four`).
+-- `weights::means::of_four` meets its contract (Temperature of a day): the rule of the four means, on raised ones (`Raised.of-four`).
 -- Assumes nothing.
 use borrow.Author.Needs.{needs, sfits-of}
 use mathlib.Core.Path.{_∙_}

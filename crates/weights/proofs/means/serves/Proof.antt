@@ -1,4 +1,4 @@
--- `weights::means::serves` meets its contract.
+-- `weights::means::serves` meets its contract (Temperature of a day).
 -- Assumes nothing.
 use borrow.Author.Needs.{needs}
 use borrow.Author.Tests.{le-leb, lt-leb, lt-ltb, le-ltb, leb-true, leb-false}

@@ -1,4 +1,4 @@
--- `console::input::Input::answer` meets its contract: what was read is the first part of the buffer. It calls nothing but `answers::answer`. Assumes nothing.
+-- `console::input::Input::answer` meets its contract (docs/GUIDE.md, The console): what was read is the first part of the buffer. It calls nothing but `answers::answer`. Assumes nothing.
 use mathlib.Core.Path.{refl, sym}
 use native.Mathlib.Omega.{arith}
 use lib.Seq.{length-take-le}

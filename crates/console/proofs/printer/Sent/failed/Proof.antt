@@ -1,4 +1,4 @@
--- `console::printer::Sent::failed` meets its contract, and calls nothing. Assumes nothing.
+-- `console::printer::Sent::failed` meets its contract (docs/GUIDE.md, The console), and calls nothing. Assumes nothing.
 use mathlib.Core.Path.{refl}
 use borrow.Author.Needs.{needs}
 use Rattle.console.specs.Traces.{TellsFailure}

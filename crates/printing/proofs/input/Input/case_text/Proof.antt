@@ -1,4 +1,4 @@
--- `printing::input::Input::case_text`: the bytes that are handed on are as many as were read; it calls nothing else. Assumes nothing.
+-- `printing::input::Input::case_text` (Case file): the bytes that are handed on are as many as were read; it calls nothing else. Assumes nothing.
 use mathlib.Core.Path.{refl, sym}
 use native.Mathlib.Omega.{arith}
 use lib.Seq.{length-take-le}

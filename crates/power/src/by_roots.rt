@@ -33,9 +33,9 @@ fn raise(way: Rounding, r: u64, n: u64) -> u64
 }
 
 // p, multiplied by each of the 24 roots after r whose bit in c is set.
-fn climb(way: Rounding, r: u64, p: u64, c: u64) -> u64
+fn times_roots(way: Rounding, r: u64, p: u64, c: u64) -> u64
     requires { ⌜ (r ≤ one) × (p ≤ one) ⌝ }
-    ensures { λ q. ⌜ q ≡ spec.climb way 24 r p c ⌝ }
+    ensures { λ q. ⌜ q ≡ spec.timesRoots way 24 r p c ⌝ }
 {
     let mut root = r;
     let mut q = p;
@@ -55,7 +55,7 @@ fn power(way: Rounding, r: u64, c: u64) -> u64
     ensures { λ p. ⌜ p ≡ spec.power way r c ⌝ }
 {
     let p = raise(way, r, c / WHOLE);
-    climb(way, r, p, c % WHOLE)
+    times_roots(way, r, p, c % WHOLE)
 }
 
 // The power of n / m with each step rounded the one way and its exponent the other; 0 where n / m is no ratio at most one.

@@ -1,12 +1,12 @@
--- `power::ladder::bound` meets its contract.
+-- `power::by_roots::bound` meets its contract (Profile value).
 -- Assumes nothing.
 use native.Mathlib.Nat.{pos-of-ne-zero}
 use borrow.Author.Needs.{needs}
 use borrow.Author.Tests.{eq-eqb, ne-eqb, lt-ltb, le-ltb}
 use Rattle.power.specs.Power.{one, exponent, ofRatio}
 use Rattle.power.proofs.AtMostOne.{ratio-le}
-use Rattle.power.proofs.ladder.bound.Statement.{statement}
-use Rattle.power.proofs.ladder.bound.Tie as tie
+use Rattle.power.proofs.by_roots.bound.Statement.{statement}
+use Rattle.power.proofs.by_roots.bound.Tie as tie
 
 returns : tie.Need-returns
 unfolding ofRatio

@@ -1,4 +1,4 @@
--- `power::ladder::raise` meets its contract. The loop's invariant: what is left to do from p gives what the whole gives from one; p is at most one. The measure is what is left.
+-- `power::by_roots::raise` meets its contract (Profile value). The loop's invariant: what is left to do from p gives what the whole gives from one; p is at most one. The measure is what is left.
 -- Assumes nothing.
 use mathlib.Core.Path.{_≡_, refl, sym, _∙_}
 use Prim.Native.Nat.{_≤_}
@@ -6,8 +6,8 @@ use native.Mathlib.Omega.{arith}
 use Rattle.power.specs.Power.{one, raise}
 use Rattle.power.proofs.AtMostOne.{product-le}
 use Rattle.power.proofs.Steps.{raise-done, raise-turn}
-use Rattle.power.proofs.ladder.raise.Statement.{statement}
-use Rattle.power.proofs.ladder.raise.Tie as tie
+use Rattle.power.proofs.by_roots.raise.Statement.{statement}
+use Rattle.power.proofs.by_roots.raise.Tie as tie
 
 abbrev Inv-loop : tie.InvT-loop
 Inv-loop way r n p₀ left₀ p left = (raise way left r p ≡ raise way n r one) × (p ≤ one)
