@@ -10,13 +10,13 @@ use mir.Syntax as Mir
 -- a value in the terms of the function; its calls, and the loops that it enters, are counted together from 0 along the way to where the value stands
 pub data Value : Type 0 where
   parameter : ℕ → Value  -- as the caller passed it, from 1
-  number : ℕ → Value
+  number : ℕ → Value  -- true is 1, false is 0
   answer : ℕ → Value  -- of this call
   address : ℕ → Value → Value  -- of this local, and what it held when its address was taken
   content : ℕ → ℕ → Value  -- of this local, whose address was taken, after so many of them
   varies : ℕ → ℕ → Value  -- what this local holds as a turn of this loop begins, which stores to it
   field : ℕ → Value → Value
-  none : Value  -- of a struct's or an array's fields, after the last
+  none : Value  -- of a struct's or an array's fields, after the last; the result of a function without one
   fields : Value → Value → Value  -- the next one, and those after it
   repeated : Value → ℕ → Value  -- an array of so many of these
   op1 : Op1 → Value → Value
