@@ -1,8 +1,8 @@
 /* The proved settlement calls for C and Rust: gas day weights, customer values and split statements.
  *
- * The static library (crate ffi) defines these calls. Each one checks what it is given and declines by a number of the paper's table
- * "If a call declines"; 0 is done. A slice passes as a pointer and the number of its elements. The pointer must be aligned and not
- * null, also where the number is 0, and slices that a call writes must not overlap others. Unless a line says otherwise, a call that
+ * The static library (crate ffi) defines these calls, which keep no state. Each one checks what it is given and declines by a number of the
+ * paper's table "If a call declines"; 0 is done. A slice passes as a pointer and the number of its elements. The pointer must be aligned and
+ * not null, also where the number is 0, and slices that a call writes must not overlap others. Unless a line says otherwise, a call that
  * declines leaves what it was lent as it was, and the value it returns is 0.
  *
  *   1  profile above 9                                7  that mark is already there
@@ -12,6 +12,10 @@
  *   5  account or lent weights unsound               11  fewer than two readings
  *   6  boundary above n                              12  customer value above 10^12
  *                                                    13  case file at fault (place: the offset)
+ *
+ * An account is sound where its weights are 1 to 6,999,999, its marks 0 to 3, every count without a reading 0, the readings' counts never falling,
+ * and the last at most 2,000,000,000 above the first. The place of 13 is the file's length where it ends early, the first byte left over, or the
+ * boundary that does not rise; that of any other refusal of a file is the offset of the field at fault.
  */
 #ifndef ARVADUSH_H
 #define ARVADUSH_H
@@ -26,7 +30,8 @@ extern "C" {
 enum {
     ARVADUSH_DAYS = 1096,       /* days of the longest span: the weights of a case file */
     ARVADUSH_BOUNDARIES = 1097, /* its boundaries: the marks and counts of a case file */
-    ARVADUSH_FILE = 16384       /* bytes to read of a case file: more never change the verdict */
+    ARVADUSH_FILE = 16384,      /* bytes to read of a case file: more never change the verdict */
+    ARVADUSH_TEXT = 72390       /* room for the text of any account */
 };
 
 /* The table's number, the place or index that goes with it, and the value; 0 where there is none. */
@@ -62,7 +67,8 @@ typedef struct {
 /* The allocation temperature of four daily means, today's first. Declines: 4 (place 0 to 3). */
 arvadush_temperature_outcome arvadush_temperature(int16_t a, int16_t b, int16_t c, int16_t d);
 
-/* The n + 3 means of a span of n days: the first of the measured series if it serves, else of the forecast, else none. Never declines. */
+/* The n + 3 means of a span of n days: the first of the measured series if it serves, else of the forecast, else none. A series serves where n is
+ * 1 to 1,096 and its first n + 3 means are there and in range. Never declines. */
 arvadush_chosen arvadush_choose(const int16_t *measured, size_t measured_len, const int16_t *forecast, size_t forecast_len, size_t n);
 
 /* ---- Profiles 0 to 9, weekdays Monday 0 to Sunday 6 */
@@ -117,8 +123,8 @@ arvadush_outcome arvadush_daily_amount(uint64_t value, uint32_t weight);
 arvadush_outcome arvadush_read(const uint8_t *file, size_t file_len, uint32_t *weights, size_t weights_len, uint8_t *marks,
                                size_t marks_len, uint64_t *counts, size_t counts_len);
 
-/* The printed statement of so many parts, as much as fits into out; returns the length of the whole text. Never declines: 0 where no
- * statement can be like that. */
+/* The printed statement of so many parts, as much as fits into out; returns the length of the whole text, above out_len where some was cut off.
+ * Never declines: 0 where no statement is like that, with no part, more than 1,096 or than a slice holds, or a part above 2,000,000,000 Wh. */
 size_t arvadush_statement_text(const uint16_t *from, size_t from_len, const uint16_t *to, size_t to_len, const uint64_t *wh, size_t wh_len,
                                size_t parts, uint8_t *out, size_t out_len);
 

@@ -50,18 +50,15 @@ def check(copy, crate):
     return done.returncode == 0, wrong[0].replace(copy + "/", "") if wrong else NOTHING
 
 
-def check_wrong(copy, crate, pairs):
-    """Checks the crate with these texts exchanged, and puts them back."""
+def check_with(copy, crate, texts):
+    """Checks the crate with these files written over, and puts them back."""
     kept = {}
-    for path, old, new in pairs:
+    for path, text in texts.items():
         place = os.path.join(copy, "crates", crate, path)
         with open(place, encoding="utf-8") as file:
-            text = file.read()
-        kept.setdefault(place, text)
-        if text.count(old) != 1:
-            raise SystemExit(f"{crate}: {old!r} is not once in {path}")
+            kept[place] = file.read()
         with open(place, "w", encoding="utf-8") as file:
-            file.write(text.replace(old, new))
+            file.write(text)
     try:
         return check(copy, crate)
     finally:
@@ -70,21 +67,49 @@ def check_wrong(copy, crate, pairs):
                 file.write(text)
 
 
-def try_crate(copies, crate):
+def exchanged(crate, pairs):
+    """The files of the crate that these exchanges of texts change, as they are then."""
+    texts = {}
+    for path, old, new in pairs:
+        if path not in texts:
+            with open(os.path.join(ROOT, "crates", crate, path), encoding="utf-8") as file:
+                texts[path] = file.read()
+        if texts[path].count(old) != 1:
+            raise SystemExit(f"{crate}: {old!r} is not once in {path}")
+        texts[path] = texts[path].replace(old, new)
+    return texts
+
+
+def in_copies(task, items):
+    """What the task says of each item, with a copy of the repository to try it in."""
+    with tempfile.TemporaryDirectory() as scratch, concurrent.futures.ThreadPoolExecutor(os.cpu_count()) as pool:
+        copies = queue.Queue()
+        for number in range(os.cpu_count()):
+            copy = os.path.join(scratch, str(number))
+            shutil.copytree(ROOT, copy, ignore=shutil.ignore_patterns(".git", "reference"), symlinks=True)
+            copies.put(copy)
+
+        def in_copy(item):
+            copy = copies.get()
+            try:
+                return task(copy, item)
+            finally:
+                copies.put(copy)
+
+        return list(pool.map(in_copy, items))
+
+
+def try_crate(copy, crate):
     """The number of wrong programs of a crate, and how many of them were not refused by a fact."""
-    copy = copies.get()
-    try:
-        count = missed = 0
-        if not check(copy, crate)[0]:
-            raise SystemExit(f"{crate} is not proved as it is")
-        for name, pairs in wrong_programs(crate):
-            proved, first = check_wrong(copy, crate, pairs)
-            verdict = "NOT REFUSED" if proved else "UNFIT" if UNFIT in first or first == NOTHING else "refused"
-            count, missed = count + 1, missed + (verdict != "refused")
-            print(f"{crate}/{name}: {verdict} ({first[:110]})", flush=True)
-        return count, missed
-    finally:
-        copies.put(copy)
+    count = missed = 0
+    if not check(copy, crate)[0]:
+        raise SystemExit(f"{crate} is not proved as it is")
+    for name, pairs in wrong_programs(crate):
+        proved, first = check_with(copy, crate, exchanged(crate, pairs))
+        verdict = "NOT REFUSED" if proved else "UNFIT" if UNFIT in first or first == NOTHING else "refused"
+        count, missed = count + 1, missed + (verdict != "refused")
+        print(f"{crate}/{name}: {verdict} ({first[:110]})", flush=True)
+    return count, missed
 
 
 def main(crates):
@@ -92,13 +117,7 @@ def main(crates):
         with open(os.path.join(ROOT, "crates.txt"), encoding="utf-8") as file:
             crates = [line.split(":")[0] for line in file if ":" in line and not line.startswith("#")]
     crates = sorted((crate for crate in crates if list(wrong_programs(crate))), key=lambda crate: -len(list(wrong_programs(crate))))
-    with tempfile.TemporaryDirectory() as scratch, concurrent.futures.ThreadPoolExecutor(os.cpu_count()) as pool:
-        copies = queue.Queue()
-        for number in range(os.cpu_count()):
-            copy = os.path.join(scratch, str(number))
-            shutil.copytree(ROOT, copy, ignore=shutil.ignore_patterns(".git", "reference"), symlinks=True)
-            copies.put(copy)
-        results = list(pool.map(lambda crate: try_crate(copies, crate), crates))
+    results = in_copies(try_crate, crates)
     count, missed = (sum(column) for column in zip(*results))
     print(f"{count - missed} refused, {missed} not")
     return missed != 0

@@ -3,16 +3,13 @@
 
 #include <stdio.h>
 
-/* The longest text: `parts 1096`, 1,096 lines of at most 5 + 1 + 5 + 1 + 10 + 1 bytes, and the sum. */
-enum { TEXT = 11 + ARVADUSH_DAYS * 23 + 15 };
-
 static uint8_t file[ARVADUSH_FILE];
 static uint32_t weights[ARVADUSH_DAYS];
 static uint8_t marks[ARVADUSH_BOUNDARIES];
 static uint64_t counts[ARVADUSH_BOUNDARIES];
 static uint16_t from[ARVADUSH_DAYS], to[ARVADUSH_DAYS];
 static uint64_t wh[ARVADUSH_DAYS];
-static uint8_t text[TEXT];
+static uint8_t text[ARVADUSH_TEXT];
 
 int main(int argc, char **argv)
 {
@@ -22,6 +19,10 @@ int main(int argc, char **argv)
         return 2;
     }
     size_t length = fread(file, 1, sizeof file, in);
+    if (ferror(in)) {
+        perror(argc > 1 ? argv[1] : "standard input");
+        return 2;
+    }
 
     size_t n = 0, parts = 0;
     arvadush_outcome outcome =
@@ -31,8 +32,11 @@ int main(int argc, char **argv)
         outcome = arvadush_statement(weights, n, marks, n + 1, counts, n + 1, from, n, to, n, wh, n);
         parts = outcome.value;
     }
-    size_t written = outcome.number == 0 ? arvadush_statement_text(from, n, to, n, wh, n, parts, text, TEXT)
-                                         : arvadush_refusal_text(outcome.number, outcome.place, text, TEXT);
-    fwrite(text, 1, written, stdout);
+    size_t written = outcome.number == 0 ? arvadush_statement_text(from, n, to, n, wh, n, parts, text, ARVADUSH_TEXT)
+                                         : arvadush_refusal_text(outcome.number, outcome.place, text, ARVADUSH_TEXT);
+    if (fwrite(text, 1, written, stdout) != written || fflush(stdout) != 0) {
+        perror("standard output");
+        return 2;
+    }
     return outcome.number == 0 ? 0 : 1;
 }

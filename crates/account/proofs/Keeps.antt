@@ -12,7 +12,7 @@ use Rattle.account.specs.Stands.{Stands, nothing, put, withReading, with
 use Rattle.account.specs.Account.{Account, account, shown, days, unfit, sound, goodWeights, goodMarks, zeroCounts, energyMost, markOf}
 use Rattle.account.specs.Slices.{Checked}
 use Rattle.account.specs.Refusals.{outOfOrder, tooMuch, openNumber, readingRows, withdrawRows, cutRows, uncutRows}
-use Rattle.account.specs.Calls.{cleared, readingPut, readingTaken, cutPut, cutTaken}
+use Rattle.account.specs.Calls.{cleared, readingPut, readingRemoved, cutPut, cutRemoved}
 use Rattle.account.proofs.Below.{clash, every-at}
 use Rattle.account.proofs.Sound.{fit, Sound, sound-parts}
 use Rattle.account.proofs.Rows.{row-none}
@@ -100,7 +100,7 @@ module _ (a : Account) (f : Checked a) (k : ℕ) where
       reading-holds true v inside (reading-sound (days a) (shown a .readings) good-readings k v ordered small)
 
   pub withdraw-keeps : withdrawRows (days a) (shown a) k ≡ 0 →
-      Holds (a .weights) (record { readings = withoutReading (shown a .readings) k; cut = shown a .cut }) (readingTaken a k)
+      Holds (a .weights) (record { readings = withoutReading (shown a .readings) k; cut = shown a .cut }) (readingRemoved a k)
   withdraw-keeps accepted =
       reading-holds false 0 (row-none (ltb (days a) k) _ _ (lit< tt) accepted .0) (withdraw-sound (days a) (shown a .readings) good-readings k)
 
@@ -123,7 +123,7 @@ module _ (a : Account) (f : Checked a) (k : ℕ) where
   cut-keeps accepted = cut-holds true (row-none (ltb (days a) k) _ _ (lit< tt) accepted .0)
 
   pub uncut-keeps : uncutRows (days a) (shown a) k ≡ 0 →
-      Holds (a .weights) (record { readings = shown a .readings; cut = put (shown a .cut) k false }) (cutTaken a k)
+      Holds (a .weights) (record { readings = shown a .readings; cut = put (shown a .cut) k false }) (cutRemoved a k)
   uncut-keeps accepted = cut-holds false (row-none (ltb (days a) k) _ _ (lit< tt) accepted .0)
 
 -- "Open clears marks and counts, checking only lengths and weights."

@@ -3,11 +3,11 @@
 use Prim.Native.Nat.{ℕ, zero, suc, _≤_, _<_}
 use mathlib.Core.Path.{_≡_, refl}
 use mathlib.Core.Logic.{⊎-elim}
-use mathlib.Core.Bool.{Bool, true, false, cond, _&&_, and-false}
+use mathlib.Core.Bool.{Bool, true, false, cond, _&&_}
 use native.Mathlib.Nat.{eq-or-lt-of-le}
 use native.Mathlib.Omega.{arith}
 use lib.Dec.{leb, ltb, eqb}
-use borrow.Author.Tests.{le-leb, eqb-true, eqb-false, lt-ltb, le-ltb, ltb-false}
+use borrow.Author.Tests.{le-leb, eqb-true, eqb-false, lt-ltb, le-ltb, ltb-true, ltb-false}
 use Rattle.account.specs.Below.{somewhere, last}
 use Rattle.account.specs.Stands.{Readings, withReading, neverFalling, lastLessFirst, firstReading, lastReading}
 use Rattle.account.specs.Refusals.{belowEarlier, aboveLater, outOfOrder, EqualCounts}
@@ -76,16 +76,18 @@ module _ (r s : Readings) (within : Within r s) where
 
 pub equal-counts : EqualCounts
 unfolding outOfOrder
-equal-counts n r k v same =
-    rw (none-is (belowEarlier r k v) (suc n) (λ j h. equal j k (r .at j) refl), none-is (aboveLater r k v) (suc n) (λ j h. equal-too j k (r .at j) refl)) refl
+equal-counts n r k v above below =
+    rw (none-is (belowEarlier r k v) (suc n) (λ j h. earlier j (ltb j k) refl (r .at j) refl), none-is (aboveLater r k v) (suc n) (λ j h. later j (ltb k j) refl (r .at j) refl)) refl
   where
-    equal : (i j : ℕ) (b : Bool) → r .at i ≡ b → (ltb i j && (b && ltb v (r .count i))) ≡ false
-    equal i j true e = rw (same i e, le-ltb v v (omega arith)) (and-false (ltb i j))
-    equal i j false e = and-false (ltb i j)
+    earlier : (j : ℕ) (b : Bool) → ltb j k ≡ b → (c : Bool) → r .at j ≡ c → (b && (c && ltb v (r .count j))) ≡ false
+    earlier j true before true at = le-ltb v (r .count j) (above j at (ltb-true j k before))
+    earlier j true before false at = refl
+    earlier j false before c at = refl
 
-    equal-too : (i j : ℕ) (b : Bool) → r .at i ≡ b → (ltb j i && (b && ltb (r .count i) v)) ≡ false
-    equal-too i j true e = rw (same i e, le-ltb v v (omega arith)) (and-false (ltb j i))
-    equal-too i j false e = and-false (ltb j i)
+    later : (j : ℕ) (b : Bool) → ltb k j ≡ b → (c : Bool) → r .at j ≡ c → (b && (c && ltb (r .count j) v)) ≡ false
+    later j true after true at = le-ltb (r .count j) v (below j at (ltb-true k j after))
+    later j true after false at = refl
+    later j false after c at = refl
 
 module _ (n : ℕ) (r : Readings) (k v : ℕ) (fits : outOfOrder n r k v ≡ false) where
   neither-row : (somewhere (belowEarlier r k v) (suc n) ≡ false) × (somewhere (aboveLater r k v) (suc n) ≡ false)

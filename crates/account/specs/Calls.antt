@@ -30,14 +30,14 @@ cleared a = account (a .weights) (zeros (a .marks)) (zeros (a .counts))
 abbrev pub readingPut : Account → ℕ → ℕ → Account
 readingPut a k v = account (a .weights) (set (a .marks) k (markOf true (shown a .cut k))) (set (a .counts) k v)
 
-abbrev pub readingTaken : Account → ℕ → Account
-readingTaken a k = account (a .weights) (set (a .marks) k (markOf false (shown a .cut k))) (set (a .counts) k 0)
+abbrev pub readingRemoved : Account → ℕ → Account
+readingRemoved a k = account (a .weights) (set (a .marks) k (markOf false (shown a .cut k))) (set (a .counts) k 0)
 
 abbrev pub cutPut : Account → ℕ → Account
 cutPut a k = account (a .weights) (set (a .marks) k (markOf (shown a .readings .at k) true)) (a .counts)
 
-abbrev pub cutTaken : Account → ℕ → Account
-cutTaken a k = account (a .weights) (set (a .marks) k (markOf (shown a .readings .at k) false)) (a .counts)
+abbrev pub cutRemoved : Account → ℕ → Account
+cutRemoved a k = account (a .weights) (set (a .marks) k (markOf (shown a .readings .at k) false)) (a .counts)
 
 -- a call to which the table gives the number `said`: it answers that, and where it is 0 leaves the account as `done`;
 -- "A refused call changes nothing in the account."
@@ -52,13 +52,13 @@ abbrev pub ReadingMet : (before : Account) (k v answered : ℕ) (after : Account
 ReadingMet before k v = CallMet (readingNumber before k v) (readingPut before k v) before
 
 abbrev pub WithdrawMet : (before : Account) (k answered : ℕ) (after : Account) → Type 0
-WithdrawMet before k = CallMet (withdrawNumber before k) (readingTaken before k) before
+WithdrawMet before k = CallMet (withdrawNumber before k) (readingRemoved before k) before
 
 abbrev pub CutMet : (before : Account) (k answered : ℕ) (after : Account) → Type 0
 CutMet before k = CallMet (cutNumber before k) (cutPut before k) before
 
 abbrev pub UncutMet : (before : Account) (k answered : ℕ) (after : Account) → Type 0
-UncutMet before k = CallMet (uncutNumber before k) (cutTaken before k) before
+UncutMet before k = CallMet (uncutNumber before k) (cutRemoved before k) before
 
 -- rows 3 and 5 asked alone (0: neither), and the weights asked alone
 pub record CheckMet (before : Account) (answered : ℕ) (after : Account) : Type 0 where

@@ -1,6 +1,6 @@
 -- The table of refusals for the account's calls (If a call declines), row by row in the order in which they are checked.
 -- 0 is done: "a call is accepted if no condition of the table holds for it".
-use Prim.Native.Nat.{ℕ, suc}
+use Prim.Native.Nat.{ℕ, suc, _≤_, _<_}
 use mathlib.Core.Path.{_≡_}
 use mathlib.Core.Bool.{Bool, true, false, not, _&&_, _||_}
 use lib.Dec.{ltb}
@@ -19,9 +19,12 @@ aboveLater r k v j = ltb k j && (r .at j && ltb (r .count j) v)
 unfoldable pub outOfOrder : ℕ → Readings → ℕ → ℕ → Bool
 outOfOrder n r k v = somewhere (belowEarlier r k v) (suc n) || somewhere (aboveLater r k v) (suc n)
 
--- "Readings may have equal counts": a count that every standing reading has is never 8 (proofs/Pairs, `equal-counts`)
+-- "Readings may have equal counts": a count that is not below an earlier reading's and not above a later one's is never 8, be it equal to them or not
+-- (proofs/Pairs, `equal-counts`)
 abbrev pub EqualCounts : Type 0
-EqualCounts = (n : ℕ) (r : Readings) (k v : ℕ) → ((j : ℕ) → r .at j ≡ true → r .count j ≡ v) → outOfOrder n r k v ≡ false
+EqualCounts =
+    (n : ℕ) (r : Readings) (k v : ℕ) → ((j : ℕ) → r .at j ≡ true → j < k → r .count j ≤ v) → ((j : ℕ) → r .at j ≡ true → k < j → v ≤ r .count j) →
+    outOfOrder n r k v ≡ false
 
 -- 9: last less first above 2,000,000,000, the call's own count taken in among those standing
 abbrev pub tooMuch : ℕ → Readings → ℕ → ℕ → Bool

@@ -13,9 +13,8 @@ use Rattle.profile.specs.Rows.{row}
 use Rattle.weights.specs.Means.{someOut}
 use Rattle.weights.specs.Weights.{Ruling, unfit}
 use Rattle.casefile.specs.Case.{profileByte, weekdayByte, meansLength, meansOf, daysOf, readingsOffset, readingsLength}
-use Rattle.casefile.specs.Faults.{Fault, refused, _before_, fault, headFault, readingsFault}
+use Rattle.casefile.specs.Faults.{Fault, refused, _before_, fault, headFault, readingsFault, spanFault}
 use Rattle.casefile.specs.Reader.{faultNumber}
-use Rattle.casefile.specs.Sections.{spanFault}
 use Rattle.casefile.specs.Agrees.{weighing, afterDay, FileAgrees}
 use Rattle.casefile.proofs.Faults.{none-both, passes, number-of, number-before}
 use Rattle.casefile.proofs.Weighing.{means-length, means-out}

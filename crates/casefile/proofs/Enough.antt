@@ -14,8 +14,7 @@ use Rattle.account.specs.Below.{somewhere}
 use Rattle.account.specs.Account.{energyMost}
 use Rattle.casefile.specs.Bytes.{little, number16, number64, signed}
 use Rattle.casefile.specs.Case.{meansLength, meanOffset, daysOf, readingsOffset, readingsLength, readingOffset, readingBoundary, readingCount, cutsOffset, cutsLength, cutOffset, cutBoundary, endOf}
-use Rattle.casefile.specs.Faults.{Fault, noFault, refused, _before_, fault, firstFault, early, failsToRise, meanFault, readingFault, cutFault, faultOf, headFault, meansFault, readingsFault, cutsFault}
-use Rattle.casefile.specs.Sections.{spanFault, beforeCutsFault}
+use Rattle.casefile.specs.Faults.{Fault, noFault, refused, _before_, fault, firstFault, early, failsToRise, meanFault, readingFault, cutFault, faultOf, headFault, meansFault, readingsFault, cutsFault, spanFault, beforeCutsFault}
 use Rattle.casefile.specs.Length.{fileMost, bytesRead, EnoughBytes}
 use Rattle.casefile.proofs.Faults.{none-both, passes}
 use Rattle.casefile.proofs.Chained.{in-order}

@@ -26,10 +26,9 @@ use Rattle.account.specs.Slices.{Checked}
 use Rattle.account.proofs.Rows.{rows-through}
 use Rattle.account.proofs.Keeps.{Holds, open-keeps, reading-keeps, cut-keeps}
 use Rattle.casefile.specs.Case.{profileByte, weekdayByte, meansLength, meansOf, daysOf, readingsOffset, readingsLength, readingOffset, readingBoundary, readingCount, cutsOffset, cutsLength, cutOffset, cutBoundary, endOf, emptyCase, withReadings, withCuts, accountOf}
-use Rattle.casefile.specs.Faults.{noFault, fault, firstFault, failsToRise, readingFault, cutFault, faultOf, headFault, meansFault, readingsFault, cutsFault}
+use Rattle.casefile.specs.Faults.{noFault, fault, firstFault, failsToRise, readingFault, cutFault, faultOf, headFault, meansFault, readingsFault, cutsFault, spanFault, beforeCutsFault}
 use Rattle.casefile.proofs.Items.{above, before, Sane, sane}
 use Rattle.casefile.proofs.Ordered.{risen, Orderly, more, reading-rows}
-use Rattle.casefile.specs.Sections.{spanFault, beforeCutsFault}
 use Rattle.casefile.specs.Reader.{faultNumber, CaseSound, CaseTaken}
 use Rattle.casefile.proofs.Faults.{number-of, number-before, none-both, no-fault, passes, none-before, first-few}
 use Rattle.casefile.proofs.Kept.{Kept, readings-kept, cuts-kept, uncut}

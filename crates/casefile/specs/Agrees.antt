@@ -14,9 +14,8 @@ use Rattle.weights.specs.Means.{firstOut, someOut}
 use Rattle.weights.specs.Weights.{Ruling, ruling}
 use Rattle.account.specs.Refusals.{readingNumber, cutNumber}
 use Rattle.casefile.specs.Case.{profileByte, weekdayByte, meanOffset, firstMeans, meansOf, daysOf, readingsOffset, readingOffset, readingBoundary, readingCount, cutOffset, cutBoundary, withReadings, withCuts}
-use Rattle.casefile.specs.Faults.{noFault, fault, firstFault, failsToRise, headFault, meanFault, readingFault, cutFault}
+use Rattle.casefile.specs.Faults.{noFault, fault, firstFault, failsToRise, headFault, meanFault, readingFault, cutFault, spanFault, beforeCutsFault}
 use Rattle.casefile.specs.Reader.{faultNumber}
-use Rattle.casefile.specs.Sections.{spanFault, beforeCutsFault}
 
 -- the weights call over profile, weekday and means
 abbrev pub weighing : List ℕ → Ruling

@@ -84,6 +84,13 @@ cutsFault s =
     firstFault (cutFault s) (cutsLength s) before
     fault (ltb (endOf s) (length s)) 13 (endOf s)
 
+-- the first fault up to the end of the means, and of the readings
+abbrev pub spanFault : List ℕ → Fault
+spanFault s = headFault s before meansFault s
+
+abbrev pub beforeCutsFault : List ℕ → Fault
+beforeCutsFault s = spanFault s before readingsFault s
+
 -- the first fault of a file, front to back
 abbrev pub faultOf : List ℕ → Fault
 faultOf s = headFault s before meansFault s before readingsFault s before cutsFault s

@@ -15,20 +15,13 @@ use Rattle.casefile.specs.declared.sections.SectionEnd.{SectionEnd}
 use Rattle.casefile.specs.declared.readings.Reading.{Reading}
 use Rattle.casefile.specs.Bytes.{number16, number64}
 use Rattle.casefile.specs.Case.{meansLength, meansOf, daysOf, readingsOffset, readingsLength, readingOffset, cutsOffset, cutsLength, cutOffset, endOf, emptyCase, withReadings, accountOf}
-use Rattle.casefile.specs.Faults.{Fault, noFault, refused, _before_, fault, early, headFault, meansFault, readingsFault, faultOf}
+use Rattle.casefile.specs.Faults.{Fault, noFault, refused, _before_, fault, early, meansFault, faultOf, spanFault, beforeCutsFault}
 use Rattle.casefile.specs.Reader.{full}
 
 -- the fault that a number and its place tell; 0 is none
 abbrev pub told : ℕ → ℕ → Fault
 told zero place = noFault
 told (suc number) place = refused (suc number) place
-
--- the first fault up to the end of the means, and of the readings
-abbrev pub spanFault : List ℕ → Fault
-spanFault s = headFault s before meansFault s
-
-abbrev pub beforeCutsFault : List ℕ → Fault
-beforeCutsFault s = spanFault s before readingsFault s
 
 -- the reader met the fault f, or, where that is none, has read n and stands at the offset `next`
 pub record Reached (f : Fault) (n next : ℕ) (p : SectionEnd) : Type 0 where

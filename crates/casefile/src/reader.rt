@@ -6,8 +6,8 @@ use crate::span::span_at;
 ghost use mathlib.Core.Path.{_≡_};
 ghost use Rattle.account.specs.Account.{accountIn};
 ghost use Rattle.profile.specs.Limits.{spanMost};
-ghost use Rattle.casefile.specs.Faults.{faultOf};
-ghost use Rattle.casefile.specs.Sections.{Clear, AllClear, SpanMet, ReadingsFrom, ReadingsMet, CutsFrom, CutsMet, FillMet, beforeCutsFault};
+ghost use Rattle.casefile.specs.Faults.{faultOf, beforeCutsFault};
+ghost use Rattle.casefile.specs.Sections.{Clear, AllClear, SpanMet, ReadingsFrom, ReadingsMet, CutsFrom, CutsMet, FillMet};
 
 pub struct Reader<'a> {
     pub file: &'a [u8],

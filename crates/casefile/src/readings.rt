@@ -10,8 +10,8 @@ ghost use Prim.Native.Nat.{_+_, _≤_, _<_, _^_};
 ghost use lib.ListN.{length};
 ghost use Rattle.casefile.specs.Bytes.{number64};
 ghost use Rattle.casefile.specs.Case.{readingsLength};
-ghost use Rattle.casefile.specs.Faults.{firstFault, readingFault};
-ghost use Rattle.casefile.specs.Sections.{ItemMet, CountedMet, ReadingsAsked, ReadingsFrom, ReadingsMet, beforeCutsFault};
+ghost use Rattle.casefile.specs.Faults.{firstFault, readingFault, beforeCutsFault};
+ghost use Rattle.casefile.specs.Sections.{ItemMet, CountedMet, ReadingsAsked, ReadingsFrom, ReadingsMet};
 
 // One reading of the file, or its fault.
 pub(crate) struct Reading {

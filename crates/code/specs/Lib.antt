@@ -1,4 +1,5 @@
--- What crate code defines and claims (Case file).
+-- What crate code defines and claims (Case file; demand 1).
 pub mod Trace
+pub mod Asks
 pub mod Files
 pub mod Samples

@@ -13,7 +13,7 @@ pub data Value : Type 0 where
   number : ℕ → Value  -- true is 1, false is 0
   answer : ℕ → Value  -- of this call
   address : ℕ → Value → Value  -- of this local, and what it held when its address was taken
-  content : ℕ → ℕ → Value  -- of this local, whose address was taken, after so many of them
+  content : ℕ → ℕ → Value  -- of this local, whose address was taken, after so many calls and loops
   varies : ℕ → ℕ → Value  -- what this local holds as a turn of this loop begins, which stores to it
   field : ℕ → Value → Value
   none : Value  -- of a struct's or an array's fields, after the last; the result of a function without one

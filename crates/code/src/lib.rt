@@ -1,1 +1,2 @@
-// What a function's code calls, and with what (Case file): specs/Trace.antt reads it off the code, for the functions that read and write.
+// What a function's code calls, and with what (Case file): specs/Trace.antt reads it off the code, for the functions that read and write. And what a
+// function asks of its caller (demand 1): specs/Asks.antt.

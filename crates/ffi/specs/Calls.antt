@@ -25,6 +25,6 @@ meansCount Neither count = 0
 
 pub record ChooseReturned (measured forecast : List ℤ) (n : ℕ) (r : Chosen) (measuredAfter forecastAfter : List ℤ) : Type 0 where
   pub series-is : r .series ≡ seriesNumber (choice measured forecast n)
-  pub means-are : r .means ≡ meansCount (choice measured forecast n) (n + 3)
+  pub how-many : r .means ≡ meansCount (choice measured forecast n) (n + 3)
   pub measured-stays : measuredAfter ≡ measured
   pub forecast-stays : forecastAfter ≡ forecast

@@ -6,7 +6,7 @@ use lib.ListN.{length}
 use Rattle.profile.specs.Rows.{ifDone}
 use Rattle.account.specs.Account.{Account, shown}
 use Rattle.account.specs.Refusals.{readingNumber, withdrawNumber, cutNumber, uncutNumber}
-use Rattle.account.specs.Calls.{readingPut, readingTaken, cutPut, cutTaken}
+use Rattle.account.specs.Calls.{readingPut, readingRemoved, cutPut, cutRemoved}
 use Rattle.statement.specs.Parts.{parts, statementOf}
 use Rattle.statement.specs.Call.{statementNumber, outputsAfter}
 use Rattle.history.specs.History.{Call}
@@ -17,9 +17,9 @@ use Rattle.history.specs.Demand3.{EveryListRuns}
 step : (a : Account) (c : Call) → (e : Event) × Step a e × (call e ≡ c)
 step a (Call.reading k v) =
     (run.reading k v (readingNumber a k v) (ifDone (readingNumber a k v) (readingPut a k v) a), record { answers = refl; leaves = refl }, refl)
-step a (Call.withdraw k) = (run.withdraw k (withdrawNumber a k) (ifDone (withdrawNumber a k) (readingTaken a k) a), record { answers = refl; leaves = refl }, refl)
+step a (Call.withdraw k) = (run.withdraw k (withdrawNumber a k) (ifDone (withdrawNumber a k) (readingRemoved a k) a), record { answers = refl; leaves = refl }, refl)
 step a (Call.cut k) = (run.cut k (cutNumber a k) (ifDone (cutNumber a k) (cutPut a k) a), record { answers = refl; leaves = refl }, refl)
-step a (Call.uncut k) = (run.uncut k (uncutNumber a k) (ifDone (uncutNumber a k) (cutTaken a k) a), record { answers = refl; leaves = refl }, refl)
+step a (Call.uncut k) = (run.uncut k (uncutNumber a k) (ifDone (uncutNumber a k) (cutRemoved a k) a), record { answers = refl; leaves = refl }, refl)
 step a (Call.statement lent) =
     let r = statementNumber a lent in (
       run.statement lent r (ifDone r (length (parts (a .weights) (shown a))) 0) a (outputsAfter r (statementOf (a .weights) (shown a)) lent),

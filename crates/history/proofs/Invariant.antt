@@ -12,7 +12,7 @@ use Rattle.account.specs.Stands.{Stands, nothing}
 use Rattle.account.specs.Account.{Account, days, shown, goodMarks}
 use Rattle.profile.specs.Rows.{ifDone}
 use Rattle.account.specs.Refusals.{accountRows, readingRows, withdrawRows, cutRows, uncutRows}
-use Rattle.account.specs.Calls.{readingPut, readingTaken, cutPut, cutTaken}
+use Rattle.account.specs.Calls.{readingPut, readingRemoved, cutPut, cutRemoved}
 use Rattle.account.proofs.Below.{every-at}
 use Rattle.account.proofs.Stores.{mark-is}
 use Rattle.account.proofs.Sound.{fit, sound-parts}
@@ -39,9 +39,9 @@ step : (a : Account) (e : Event) → Checked a → Step a e → Holds (a .weight
 step a (run.reading k v r b) f met =
     changes a (readingPut a k v) b _ (readingRows (days a) (shown a) k v) f (met .leaves) (reading-keeps a f k v)
 step a (run.withdraw k r b) f met =
-    changes a (readingTaken a k) b _ (withdrawRows (days a) (shown a) k) f (met .leaves) (withdraw-keeps a f k)
+    changes a (readingRemoved a k) b _ (withdrawRows (days a) (shown a) k) f (met .leaves) (withdraw-keeps a f k)
 step a (run.cut k r b) f met = changes a (cutPut a k) b _ (cutRows (days a) (shown a) k) f (met .leaves) (cut-keeps a f k)
-step a (run.uncut k r b) f met = changes a (cutTaken a k) b _ (uncutRows (days a) (shown a) k) f (met .leaves) (uncut-keeps a f k)
+step a (run.uncut k r b) f met = changes a (cutRemoved a k) b _ (uncutRows (days a) (shown a) k) f (met .leaves) (uncut-keeps a f k)
 step a (run.statement o r m b out) f met = rw (met .stays) (same a f)
 
 steps : (w : List ℕ) (s : Stands) (a : Account) (e : Event) → Holds w s a → Step a e → Holds w (after (length w) s (call e)) (accountAfter e)

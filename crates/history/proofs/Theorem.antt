@@ -5,6 +5,7 @@ use mathlib.Core.Bool.{true}
 use mathlib.Core.List.{List}
 use native.Mathlib.Omega.{arith}
 use lib.Dec.{lit<}
+use borrow.Author.Tests.{ltb-false}
 use lib.ListN.{length}
 use Rattle.account.specs.Stands.{Stands, nothing}
 use Rattle.account.specs.Account.{Account, days, shown}
@@ -41,7 +42,7 @@ by a lent m b out f met =
     record {
       counts = rw (← (met .answers)) at (met .gives);
       writes = rw (← (met .answers)) at (met .writes);
-      two = row-none _ _ _ (lit< tt) (rows .1) .0;
+      two = ltb-false _ _ (row-none _ _ _ (lit< tt) (rows .1) .0);
       valid = valid-of-sound a (f .sound);
       inside = shown-inside a (f .fits);
     }

@@ -28,7 +28,7 @@ Among es before e = (rest : List Event) × (es ≡ before ++ (e ∷ rest))
 abbrev pub Given : List Event → List Event → ℕ → Outputs → Type 0
 Given es before m out = (lent : Outputs) × (after : Account) × Among es before (run.statement lent 0 m after out)
 
--- the account's slices are those that what stands has: its weights, and the marks and counts of boundaries 0 to n and of no others
+-- the account's slices show what stands and nothing else: the weights, and the marks and counts of boundaries 0 to n
 pub record Carries (w : List ℕ) (s : Stands) (a : Account) : Type 0 where
   pub weighs : a .weights ≡ w
   pub marks-long : length (a .marks) ≡ length w + 1

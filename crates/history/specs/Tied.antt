@@ -5,6 +5,7 @@ use mathlib.Core.Path.{_≡_}
 use contract.Lifetimes
 use borrow.Fn.Kinds
 use denote.Ref.{now}
+use Rattle.code.specs.Asks.{AsksNothing}
 use Rattle.account.specs.Account.{accountIn}
 use Rattle.account.specs.Calls.{number, OpenMet}
 use Rattle.account.proofs.open.Kinds as open-kinds
@@ -50,10 +51,10 @@ pub record Tied : Type 1 where
   pub weights-is : (κs : Lifetimes.Lfts 2) (a : Kinds.Dens κs weights-kinds.ps) (r : _) (s : _) →
       weights-reads.Post κs a r s ≡
       WeightsMet (a .0) (a .1 .0) (now (a .1 .1 .0)) (now (a .1 .1 .1 .0)) (weights.number r) (weights.place r) (now (s .1 .1 .1 .0)) (now (s .1 .1 .0))
-  pub open-asks-nothing : (κs : Lifetimes.Lfts 3) (a : Kinds.Dens κs open-kinds.ps) → open-reads.Pre κs a ≡ Unit {0}
-  pub reading-asks-nothing : (κs : Lifetimes.Lfts 3) (a : Kinds.Dens κs reading-kinds.ps) → reading-reads.Pre κs a ≡ Unit {0}
-  pub withdraw-asks-nothing : (κs : Lifetimes.Lfts 3) (a : Kinds.Dens κs withdraw-kinds.ps) → withdraw-reads.Pre κs a ≡ Unit {0}
-  pub cut-asks-nothing : (κs : Lifetimes.Lfts 3) (a : Kinds.Dens κs cut-kinds.ps) → cut-reads.Pre κs a ≡ Unit {0}
-  pub uncut-asks-nothing : (κs : Lifetimes.Lfts 3) (a : Kinds.Dens κs uncut-kinds.ps) → uncut-reads.Pre κs a ≡ Unit {0}
-  pub statement-asks-nothing : (κs : Lifetimes.Lfts 6) (a : Kinds.Dens κs statement-kinds.ps) → statement-reads.Pre κs a ≡ Unit {0}
-  pub weights-asks-nothing : (κs : Lifetimes.Lfts 2) (a : Kinds.Dens κs weights-kinds.ps) → weights-reads.Pre κs a ≡ Unit {0}
+  pub open-asks-nothing : AsksNothing open-reads.Pre
+  pub reading-asks-nothing : AsksNothing reading-reads.Pre
+  pub withdraw-asks-nothing : AsksNothing withdraw-reads.Pre
+  pub cut-asks-nothing : AsksNothing cut-reads.Pre
+  pub uncut-asks-nothing : AsksNothing uncut-reads.Pre
+  pub statement-asks-nothing : AsksNothing statement-reads.Pre
+  pub weights-asks-nothing : AsksNothing weights-reads.Pre

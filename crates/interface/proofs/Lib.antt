@@ -1,2 +1,3 @@
--- The theorems of crate interface (demand 3; If a call declines).
+-- The theorems of crate interface (demands 1 and 3; If a call declines).
 pub mod Names
+pub mod Entries

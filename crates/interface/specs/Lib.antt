@@ -1,2 +1,3 @@
--- What crate interface claims of the calls for C and Rust (demand 3; If a call declines).
+-- What crate interface claims of exported calls (demands 1 and 3; If a call declines).
 pub mod Named
+pub mod Entries

@@ -1,6 +1,6 @@
 -- The calls for C and Rust by their names (If a call declines): the contract of each, as the toolchain reads it, IS that of the call below it, over the
--- numbers that it returns, and none asks anything of its caller, "each entry point checks its own input". The account's calls are the steps of `Run`,
--- and open is that of `Claim`, so demand 3 is about lists of them as it is about lists of the calls below.
+-- numbers that it returns. The account's calls are the steps of `Run`, and open is that of `Claim`, so demand 3 is about lists of them as it is about
+-- lists of the calls below.
 -- (proofs/Names, `named`: by `refl`, so an `ensures` that is not the one of its name breaks it)
 use mathlib.Core.Path.{_≡_}
 use contract.Lifetimes
@@ -85,19 +85,3 @@ pub record Named : Type 1 where
       statement-text-reads.Post κs a r s ≡ TextMet (statementText (outputsIn (a .0) (a .1 .0) (a .1 .1 .0)) (a .1 .1 .1 .0)) (now (a .1 .1 .1 .1 .0)) r (now (s .1 .1 .1 .1 .0)) (outputsIn (a .0) (a .1 .0) (a .1 .1 .0)) (outputsIn (s .0) (s .1 .0) (s .1 .1 .0))
   pub refusal-text-is : (κs : Lifetimes.Lfts 1) (a : Kinds.Dens κs refusal-text-kinds.ps) (r : _) (s : _) →
       refusal-text-reads.Post κs a r s ≡ LaidOut 0 (refusalText (a .0) (a .1 .0)) (now (a .1 .1 .0)) r (now (s .1 .1 .0))
-  pub temperature-asks-nothing : (κs : Lifetimes.Lfts 0) (a : Kinds.Dens κs temperature-kinds.ps) → temperature-reads.Pre κs a ≡ Unit {0}
-  pub choose-asks-nothing : (κs : Lifetimes.Lfts 1) (a : Kinds.Dens κs choose-kinds.ps) → choose-reads.Pre κs a ≡ Unit {0}
-  pub value-asks-nothing : (κs : Lifetimes.Lfts 0) (a : Kinds.Dens κs value-kinds.ps) → value-reads.Pre κs a ≡ Unit {0}
-  pub day-weight-asks-nothing : (κs : Lifetimes.Lfts 0) (a : Kinds.Dens κs day-weight-kinds.ps) → day-weight-reads.Pre κs a ≡ Unit {0}
-  pub weights-asks-nothing : (κs : Lifetimes.Lfts 2) (a : Kinds.Dens κs weights-kinds.ps) → weights-reads.Pre κs a ≡ Unit {0}
-  pub open-asks-nothing : (κs : Lifetimes.Lfts 3) (a : Kinds.Dens κs open-kinds.ps) → open-reads.Pre κs a ≡ Unit {0}
-  pub reading-asks-nothing : (κs : Lifetimes.Lfts 3) (a : Kinds.Dens κs reading-kinds.ps) → reading-reads.Pre κs a ≡ Unit {0}
-  pub withdraw-asks-nothing : (κs : Lifetimes.Lfts 3) (a : Kinds.Dens κs withdraw-kinds.ps) → withdraw-reads.Pre κs a ≡ Unit {0}
-  pub cut-asks-nothing : (κs : Lifetimes.Lfts 3) (a : Kinds.Dens κs cut-kinds.ps) → cut-reads.Pre κs a ≡ Unit {0}
-  pub uncut-asks-nothing : (κs : Lifetimes.Lfts 3) (a : Kinds.Dens κs uncut-kinds.ps) → uncut-reads.Pre κs a ≡ Unit {0}
-  pub statement-asks-nothing : (κs : Lifetimes.Lfts 6) (a : Kinds.Dens κs statement-kinds.ps) → statement-reads.Pre κs a ≡ Unit {0}
-  pub customer-value-asks-nothing : (κs : Lifetimes.Lfts 1) (a : Kinds.Dens κs customer-value-kinds.ps) → customer-value-reads.Pre κs a ≡ Unit {0}
-  pub daily-amount-asks-nothing : (κs : Lifetimes.Lfts 0) (a : Kinds.Dens κs daily-amount-kinds.ps) → daily-amount-reads.Pre κs a ≡ Unit {0}
-  pub read-asks-nothing : (κs : Lifetimes.Lfts 4) (a : Kinds.Dens κs read-kinds.ps) → read-reads.Pre κs a ≡ Unit {0}
-  pub statement-text-asks-nothing : (κs : Lifetimes.Lfts 4) (a : Kinds.Dens κs statement-text-kinds.ps) → statement-text-reads.Pre κs a ≡ Unit {0}
-  pub refusal-text-asks-nothing : (κs : Lifetimes.Lfts 1) (a : Kinds.Dens κs refusal-text-kinds.ps) → refusal-text-reads.Pre κs a ≡ Unit {0}

@@ -1,2 +1,2 @@
-// Claims about the calls that include/arvadush.h declares (demand 3, If a call declines): specs/Named.antt has the contract of each,
-// specs/Lists.antt demand 3 of every list of them.
+// Claims about exported calls (demands 1 and 3, If a call declines): specs/Named.antt has the contract of each that include/arvadush.h declares, the
+// account's being the steps of demand 3; specs/Entries.antt that no call asks anything of its caller.

@@ -11,8 +11,9 @@ use Rattle.profile.specs.Limits.{spanMost}
 use Rattle.account.specs.Account.{Account, days, shown}
 use Rattle.statement.specs.Parts.{Outputs, parts, written}
 use Rattle.statement.specs.Shares.{total}
+use Rattle.statement.specs.Call.{accountNumber}
 use Rattle.layout.specs.Text.{lineOf, partLines, partsText, statementText, refusalText}
-use Rattle.layout.specs.Accounts.{accountNumber, textMost, TextFits}
+use Rattle.layout.specs.Accounts.{textMost, TextFits}
 use Rattle.layout.proofs.Decimal.{decimal-most}
 
 pub refusal-most : (number place : ℕ) → length (refusalText number place) ≤ textMost

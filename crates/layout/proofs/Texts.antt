@@ -10,10 +10,10 @@ use lib.Seq.{length-take-le, take-at}
 use Rattle.profile.specs.Limits.{spanMost}
 use Rattle.account.specs.Account.{Account, days, shown}
 use Rattle.statement.specs.Parts.{Outputs, parts, written}
-use Rattle.statement.specs.Call.{StatementMet, number, partCount, statementNumber, outputsAfter}
+use Rattle.statement.specs.Call.{StatementMet, number, partCount, accountNumber, statementNumber, outputsAfter}
 use Rattle.statement.specs.declared.StatementAnswer.{StatementAnswer}
 use Rattle.layout.specs.Text.{statementText, refusalText}
-use Rattle.layout.specs.Accounts.{accountNumber, accountText, answeredText}
+use Rattle.layout.specs.Accounts.{accountText, answeredText}
 
 pub refusal-says : (a : Account) (k : ℕ) → accountNumber a ≡ k → (k ≡ 0 → ⊥) → accountText a ≡ refusalText k 0
 refusal-says a k is refused =

@@ -3,16 +3,11 @@ use Prim.Native.Nat.{ℕ, _≤_}
 use mathlib.Core.List.{List}
 use lib.ListN.{length}
 use Rattle.profile.specs.Rows.{ifDone}
-use Rattle.account.specs.Account.{Account, days, shown}
-use Rattle.account.specs.Refusals.{accountRows}
+use Rattle.account.specs.Account.{Account, shown}
 use Rattle.statement.specs.Parts.{Outputs, parts, statementOf}
-use Rattle.statement.specs.Call.{number, partCount, statementRows}
+use Rattle.statement.specs.Call.{number, partCount, accountNumber}
 use Rattle.statement.specs.declared.StatementAnswer.{StatementAnswer}
 use Rattle.layout.specs.Text.{statementText, refusalText}
-
--- the number that a statement of an account answers, its outputs being n long
-abbrev pub accountNumber : Account → ℕ
-accountNumber a = accountRows a (statementRows (days a) (shown a))
 
 -- the statement of an account, or its refusal, which has no place
 abbrev pub accountText : Account → List ℕ

@@ -1,12 +1,12 @@
 -- A quotient rounded either way (Profile value): how it stands to the exact one, and that no whole number lies between.
 -- Assumes nothing.
-use mathlib.Core.Path.{_≡_, sym}
+use mathlib.Core.Path.{_≡_}
 use Prim.Native.Nat.{ℕ, _+_, _-_, _*_, _/_, _≤_, _<_}
-use native.Mathlib.Nat.{le-antisymm, le-refl, le-of-suc-le-suc, suc-mul, div-mul-le-self, le-div-iff-mul-le, div-lt-iff-lt-mul, div-eq-of-lt-le, lt-div-mul-add}
+use native.Mathlib.Nat.{le-antisymm, le-refl, le-of-suc-le-suc, suc-mul, div-mul-le-self, le-div-iff-mul-le, div-lt-iff-lt-mul, lt-div-mul-add}
 use native.Mathlib.Omega.{arith}
 use Rattle.power.specs.declared.rounded.Rounding.{Rounding}
 use Rattle.power.specs.declared.rounded.Rounding.the-variants.{Down, Up}
-use Rattle.power.specs.Power.{RoundedUp, quotient, Quotients}
+use Rattle.power.specs.Power.{RoundedDown, RoundedUp, quotient, Quotients}
 use Rattle.power.proofs.Way.{Rounded, below, above}
 
 up-high : (a b : ℕ) → 0 < b → a ≤ (a + (b - 1)) / b * b
@@ -30,16 +30,16 @@ le-quotient Up a b q h g = le-div-iff-mul-le h .1 (omega arith)
 pub quotient-exact : (way : Rounding) (b q : ℕ) → 0 < b → quotient way (q * b) b ≡ q
 quotient-exact way b q h = le-antisymm (quotient-le way (q * b) b q h (le-refl _)) (le-quotient way (q * b) b q h (le-refl _))
 
--- only one number is the least of its kind
+-- only one number is the greatest or the least of its kind
+pub down-only : {f : ℕ → ℕ} {x s t : ℕ} → RoundedDown f x s → RoundedDown f x t → s ≡ t
+down-only {s = s} {t} a b = le-antisymm (b .greatest s (a .low)) (a .greatest t (b .low))
+
 pub up-only : {f : ℕ → ℕ} {x s t : ℕ} → RoundedUp f x s → RoundedUp f x t → s ≡ t
 up-only {s = s} {t} a b = le-antisymm (a .least t (b .high)) (b .least s (a .high))
 
 pub quotients : Quotients
 unfolding quotient
 quotients a b h =
-    let up : RoundedUp (λ q. q * b) a ((a + (b - 1)) / b) = record { high = up-high a b h; least = λ t g. quotient-le Up a b t h g } in (
-      record { low = div-mul-le-self a b; next = omega (arith, lt-div-mul-add {a = a} h) },
-      up,
-      λ q is. sym (div-eq-of-lt-le b (is .low) (is .next)),
-      λ q is. up-only is up,
-    )
+    let down : RoundedDown (λ q. q * b) a (a / b) = record { low = div-mul-le-self a b; greatest = λ t g. le-quotient Down a b t h g } in
+    let up : RoundedUp (λ q. q * b) a ((a + (b - 1)) / b) = record { high = up-high a b h; least = λ t g. quotient-le Up a b t h g } in
+    (down, up, λ q is. down-only is down, λ q is. up-only is up)

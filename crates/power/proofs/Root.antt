@@ -12,7 +12,7 @@ use Rattle.power.specs.declared.rounded.Rounding.{Rounding}
 use Rattle.power.specs.declared.rounded.Rounding.the-variants.{Down, Up}
 use Rattle.power.specs.Power.{one, newton, RoundedDown, RoundedUp, sqrtDown, sqrtUp, square, Roots, squareRoot}
 use Rattle.power.proofs.Way.{Rounded, below, above}
-use Rattle.power.proofs.Quotient.{up-only}
+use Rattle.power.proofs.Quotient.{down-only, up-only}
 
 -- with b = a + d, a² + b² is 2ab and d² more
 squares : (a d : ℕ) → (a + d) * (a + d) + a * a ≡ a * (a + d) + a * (a + d) + d * d
@@ -57,14 +57,15 @@ square-lt a b h = either (decLe b a)
 square-le : (a b : ℕ) → a * a ≤ b * b → a ≤ b
 square-le a b h = omega (arith, square-lt a (b + 1) (omega (arith, add-mul b 1 (b + 1), mul-add b b 1)))
 
-greatest : {x s : ℕ} → RoundedDown square x s → (t : ℕ) → t * t ≤ x → t ≤ s
-greatest {x} {s} r t h = omega (arith, square-lt t (s + 1) (lt-of-le-of-lt h (r .next)))
+-- s is the root where its square is not above x and the next one is
+pub root-by-next : (x s : ℕ) → s * s ≤ x → x < (s + 1) * (s + 1) → RoundedDown square x s
+root-by-next x s h g = record { low = h; greatest = λ t k. omega (arith, square-lt t (s + 1) (lt-of-le-of-lt k g)) }
 
 newton-root : (k x s : ℕ) → s ≤ k → x < (s + 1) * (s + 1) → RoundedDown square x (newton k x s)
 unfolding newton
 newton-root zero x s h g =
     let e : s ≡ 0 = omega arith in
-    rw e (record { low = omega arith; next = rw e at g })
+    rw e (root-by-next x 0 (omega arith) (rw e at g))
 newton-root (suc k) x s h g = turn (newton-root k x ((s + x / s) / 2)) (ltb x (s * s)) refl
   where
     s′ : ℕ
@@ -74,7 +75,7 @@ newton-root (suc k) x s h g = turn (newton-root k x ((s + x / s) / 2)) (ltb x (s
     turn rest true e =
         let l : x < s * s = ltb-true x (s * s) e in
         rest (omega (arith, mean-below x s l)) (mean-above x s (square-pos x s l))
-    turn rest false e = record { low = ltb-false x (s * s) e; next = g }
+    turn rest false e = root-by-next x s (ltb-false x (s * s) e) g
 
 pub one-pos : 0 < one
 unfolding one
@@ -85,7 +86,7 @@ unfolding sqrtDown
 root-down x = newton-root _ x _ (le-refl _) (mean-above x one one-pos)
 
 pub root-down-only : (x s : ℕ) → RoundedDown square x s → s ≡ sqrtDown x
-root-down-only x s r = le-antisymm (greatest (root-down x) s (r .low)) (greatest r (sqrtDown x) (root-down x .low))
+root-down-only x s r = down-only r (root-down x)
 
 root-up : (x : ℕ) → RoundedUp square x (sqrtUp x)
 unfolding sqrtUp
@@ -97,7 +98,7 @@ root-up x = turn (ltb (d * d) x) refl
     turn : (b : Bool) → ltb (d * d) x ≡ b → RoundedUp square x (cond b (d + 1) d)
     turn true e =
         record {
-          high = le-of-lt (root-down x .next);
+          high = le-of-lt (lt-of-not-le (λ g. absurd (omega (arith, root-down x .greatest (d + 1) g))));
           least = λ (t : ℕ) (h : x ≤ t * t). omega (arith, square-lt d t (lt-of-lt-of-le (ltb-true (d * d) x e) h));
         }
     turn false e =
@@ -121,7 +122,7 @@ root-le Up x s h = root-up x .least s h
 
 le-root : (way : Rounding) (x s : ℕ) → s * s ≤ x → s ≤ squareRoot way x
 unfolding squareRoot
-le-root Down x s h = greatest (root-down x) s h
+le-root Down x s h = root-down x .greatest s h
 le-root Up x s h = square-le s (sqrtUp x) (le-trans h (root-up x .high))
 
 pub root-exact : (way : Rounding) (s : ℕ) → squareRoot way (s * s) ≡ s

@@ -1,5 +1,5 @@
 -- The power of a ratio (Profile value): "Put one = 2^30." The exponent, the power of a ratio by roots, its two bounds, and that they enclose the exact power.
--- Callers' proofs use proofs/Laws, and open only `one` and `quotient`.
+-- The profile's proofs open only `one` and `quotient`, and else cite this crate's laws.
 use mathlib.Core.Path.{_≡_}
 use mathlib.Core.Bool.{true, false, cond}
 use Prim.Native.Nat.{ℕ, zero, suc, _+_, _-_, _*_, _/_, _%_, _^_, _≤_, _<_}
@@ -10,10 +10,10 @@ use Rattle.power.specs.declared.rounded.Rounding.the-variants.{Down, Up}
 unfoldable pub one : ℕ
 one = 2 ^ 30
 
--- "rounded down": the greatest s that f takes to at most x, f growing
+-- "rounded down": the greatest s that f takes to at most x
 pub record RoundedDown (f : ℕ → ℕ) (x s : ℕ) : Type 0 where
   pub low : f s ≤ x
-  pub next : x < f (s + 1)
+  pub greatest : (t : ℕ) → f t ≤ x → t ≤ s
 
 -- "rounded up": the least s that f takes to at least x
 pub record RoundedUp (f : ℕ → ℕ) (x s : ℕ) : Type 0 where

@@ -8,8 +8,8 @@ use lib.IntN.{ℤ, pos}
 use Rattle.profile.specs.Rows.{row, ifDone}
 use Rattle.profile.specs.Limits.{inRange, coldest, warmest, weightLeast, weightMost, spanMost, profileCount}
 use Rattle.profile.specs.Coefficients.{profileOf, sumOf}
-use Rattle.profile.specs.Value.{EnclosedPower, valueLow, valueHigh}
-use Rattle.profile.specs.Weight.{weightOf, floorWeight}
+use Rattle.profile.specs.Value.{valueLow, valueHigh}
+use Rattle.profile.specs.Weight.{floorWeight}
 use Rattle.profile.specs.declared.Numbered.{Numbered}
 use Rattle.profile.specs.declared.ValueAnswer.{ValueAnswer}
 use Rattle.profile.specs.declared.ValueAnswer.the-variants as Valued
@@ -78,7 +78,6 @@ pub record ValueMet (profile : ℕ) (t : ℤ) (answered placed : ℕ) (lowest hi
   pub places : placed ≡ 0
   pub low : lowest ≡ lowByRule profile t
   pub high : highest ≡ highByRule profile t
-  pub powers-enclose : valueNumber profile t ≡ 0 → EnclosedPower (profileOf profile) t
 
 -- ---- day weight
 abbrev pub weightNumber : ℕ → ℕ → ℤ → ℕ
@@ -110,7 +109,6 @@ weightGiven (Weighed.OutOfRange k) = 0
 pub record WeightMet (profile weekday : ℕ) (t : ℤ) (answered placed given : ℕ) : Type 0 where
   pub answers : answered ≡ weightNumber profile weekday t
   pub places : placed ≡ 0
-  pub gives : given ≡ ifDone (weightNumber profile weekday t) (weightOf profile weekday t) 0
-  pub floored : weightNumber profile weekday t ≡ 0 → floorWeight profile weekday t ≡ pos given
+  pub gives : pos given ≡ ifDone (weightNumber profile weekday t) (floorWeight profile weekday t) (pos 0)
   pub least : weightNumber profile weekday t ≡ 0 → weightLeast ≤ given
   pub most : weightNumber profile weekday t ≡ 0 → given ≤ weightMost

@@ -41,7 +41,7 @@ gmf33 = record { a = 12_328_655; b = minus 347_213_605; c = 58_164_304; d = 873_
 abbrev pub table : List Profile
 table = hef33 ∷ hmf33 ∷ hko03 ∷ ghd33 ∷ gmk33 ∷ gko33 ∷ gbh33 ∷ gba33 ∷ gga33 ∷ gmf33 ∷ []
 
--- the sum of some numbers: for the factors of every row of table 5 it is 70,000
+-- the sum of some numbers: 70,000 for the factors of every row of table 5, and Z for the weights of a customer value
 unfoldable pub sumOf : List ℕ → ℕ
 sumOf [] = 0
 sumOf (x ∷ xs) = x + sumOf xs

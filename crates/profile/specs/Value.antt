@@ -72,16 +72,24 @@ EnclosedPower p t = Encloses (ratioN p t) (ratioM p t) (p .c) (lowPower p t) (hi
 abbrev pub AnyProfile : Type 0
 AnyProfile = (p : Profile) (t : ℤ) → inRange t ≡ true → (0 < ratioM p t) × (ratioN p t ≤ ratioM p t) × EnclosedPower p t
 
--- the share of a power y / d, 1 / (1 + power) cold and power / (1 + power) warm, lies between sLow and sHigh (in units of 2^-30, over whole numbers)
-pub record SharesEnclosed (p : Profile) (t : ℤ) (y d : ℕ) : Type 0 where
-  pub cold-low : cold p t ≡ true → sLow p t * (one * d + y) ≤ 2 ^ 60 * d
-  pub cold-high : cold p t ≡ true → 2 ^ 60 * d ≤ sHigh p t * (one * d + y)
-  pub warm-low : cold p t ≡ false → sLow p t * (one * d + y) ≤ y * one
-  pub warm-high : cold p t ≡ false → y * one ≤ sHigh p t * (one * d + y)
+-- the share of a power y / d (in units of 2^-30) is this over one × d + y: 1 / (1 + power) cold, power / (1 + power) warm
+abbrev pub shareOver : Profile → ℤ → (y d : ℕ) → ℕ
+shareOver p t y d = cond (cold p t) (one * d) y
 
--- for every power between the two that the rules give, whatever profile (proofs/Enclosed, `shares-enclose`)
-abbrev pub SharesEnclose : Type 0
-SharesEnclose = (p : Profile) (t : ℤ) (y d : ℕ) → lowPower p t * d ≤ y → y ≤ highPower p t * d → SharesEnclosed p t y d
+-- the value with that share, times one × d + y
+abbrev pub valueOver : Profile → ℤ → (y d : ℕ) → ℤ
+valueOver p t y d = pos (p .a * 100 * shareOver p t y d) +ℤ linear p t *ℤ pos (one * d + y)
+
+-- that share lies between sLow and sHigh, and that value between the low and the high value
+pub record Enclosed (p : Profile) (t : ℤ) (y d : ℕ) : Type 0 where
+  pub share-low : sLow p t * (one * d + y) ≤ one * shareOver p t y d
+  pub share-high : one * shareOver p t y d ≤ sHigh p t * (one * d + y)
+  pub value-low : (valueLow p t *ℤ pos (one * d + y)) ≤ℤ valueOver p t y d
+  pub value-high : valueOver p t y d ≤ℤ (valueHigh p t *ℤ pos (one * d + y))
+
+-- for every power between the two that the rules give, whatever profile (proofs/Enclosed, `values-enclose`)
+abbrev pub ValuesEnclose : Type 0
+ValuesEnclose = (p : Profile) (t : ℤ) (y d : ℕ) → lowPower p t * d ≤ y → y ≤ highPower p t * d → Enclosed p t y d
 
 -- the low value is at most the high value, whatever profile (proofs/Enclosed, `values-in-order`)
 abbrev pub ValuesInOrder : Type 0

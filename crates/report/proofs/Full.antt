@@ -6,7 +6,7 @@ use mathlib.Core.List.{List, map}
 use native.Mathlib.Omega.{arith}
 use native.Mathlib.Nat.{not-suc-le-zero}
 use native.Mathlib.Decide.{decLt}
-use borrow.Author.Tests.{le-ltb, ne-eqb}
+use borrow.Author.Tests.{le-ltb, ltb-false, ne-eqb}
 use lib.Dec.{ltb}
 use lib.ListN.{length, getD, replicate, length-append, length-map}
 use Rattle.profile.specs.Limits.{spanMost}
@@ -46,7 +46,8 @@ long-enough f n ps =
 pub in-full : PrintedInFull
 in-full a number =
     let ok = checked a (statementRows (days a) (shown a)) number in
-    let two = row-none (ltb (howMany (shown a .readings .at) (suc (days a))) 2) 11 0 (omega arith) (sym (rows-through a (statementRows (days a) (shown a)) ok) ∙ number) .0 in
+    let readings : ℕ = howMany (shown a .readings .at) (suc (days a)) in
+    let two = ltb-false readings 2 (row-none (ltb readings 2) 11 0 (omega arith) (sym (rows-through a (statementRows (days a) (shown a)) ok) ∙ number) .0) in
     let ps = parts (a .weights) (shown a) in
     let o = written (days a) ps in
     let sum = sums-up (a .weights) (shown a) (valid-of-sound a (ok .sound)) two in

@@ -8,8 +8,9 @@ use Rattle.profile.specs.Rows.{ifDone}
 use Rattle.account.specs.Stands.{lastLessFirst}
 use Rattle.account.specs.Account.{Account, days, shown}
 use Rattle.statement.specs.Parts.{parts, statementOf}
+use Rattle.statement.specs.Call.{accountNumber}
 use Rattle.layout.specs.Text.{partsText, refusalText, LaidOut}
-use Rattle.layout.specs.Accounts.{accountNumber, accountText, textMost}
+use Rattle.layout.specs.Accounts.{accountText, textMost}
 use Rattle.casefile.specs.Case.{accountOf}
 use Rattle.casefile.specs.Faults.{Fault, faultOf}
 use Rattle.casefile.specs.Length.{bytesRead}
@@ -32,7 +33,7 @@ textOf fault s =
 abbrev pub fileText : List ℕ → List ℕ
 fileText s = textOf (faultOf s) s
 
--- .. and what the reader's verdict comes to where it is lent these slices
+-- .. and what a call prints that reads it into these slices: 3 where they are unfit
 abbrev pub caseText : List ℕ → Account → List ℕ
 caseText s lent = textOf (verdict s lent) s
 

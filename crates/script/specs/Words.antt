@@ -49,5 +49,5 @@ module _ {A : Type 0} where
 
   -- an answer that is read off a lent text, and the text unchanged
   pub record ReadOff (is answer : A) (text kept : List ℕ) : Type 0 where
-    pub answers : answer ≡ is
+    pub gives : answer ≡ is
     pub stays : kept ≡ text

@@ -1,4 +1,4 @@
--- Numbers printed and read again (Case file, the console): the digits of a number have its value. Assumes nothing.
+-- Numbers printed and read again (Case file; docs/GUIDE.md, The console): the digits of a number have its value. Assumes nothing.
 use Prim.Native.Nat.{ℕ, zero, suc, _+_, _-_, _*_, _/_, _%_, _^_, _<_}
 use mathlib.Core.Path.{_≡_, refl, _∙_}
 use mathlib.Core.Bool.{Bool, true, false, cond, _&&_}

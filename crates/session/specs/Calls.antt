@@ -7,7 +7,7 @@ use lib.ListN.{length, take, replicate}
 use Rattle.account.specs.Account.{Account, account}
 use Rattle.profile.specs.Rows.{row, ifDone}
 use Rattle.account.specs.Refusals.{openNumber, readingNumber, withdrawNumber, cutNumber, uncutNumber}
-use Rattle.account.specs.Calls.{cleared, readingPut, readingTaken, cutPut, cutTaken, CallMet}
+use Rattle.account.specs.Calls.{cleared, readingPut, readingRemoved, cutPut, cutRemoved, CallMet}
 use Rattle.weights.specs.Weights.{Ruling, ruling}
 use Rattle.script.specs.Calls.{weightsIn, meansIn}
 use Rattle.script.specs.declared.Call.{Call}
@@ -24,9 +24,9 @@ callNumber a (Uncut k) = uncutNumber a k
 
 abbrev pub called : Account → Call → Account
 called a (Reading k v) = readingPut a k v
-called a (Withdraw k) = readingTaken a k
+called a (Withdraw k) = readingRemoved a k
 called a (Cut k) = cutPut a k
-called a (Uncut k) = cutTaken a k
+called a (Uncut k) = cutRemoved a k
 
 abbrev pub after : Account → Call → Account
 after a c = ifDone (callNumber a c) (called a c) a

@@ -1,6 +1,6 @@
 -- The answers of a statement (If a call declines): each way to answer meets the call's record. Assumes nothing.
 use mathlib.Core.Path.{_≡_, refl, sym, ap, _∙_}
-use mathlib.Core.Bool.{Bool, true, false, not, _||_, or-true}
+use mathlib.Core.Bool.{Bool, true, false, not}
 use Prim.Native.Nat.{ℕ, suc, _-_, _≤_, _<_}
 use native.Mathlib.Nat.{sub-zero}
 use native.Mathlib.Numerals.{add-one}
@@ -42,38 +42,41 @@ long-fit : (n : ℕ) (o : Outputs) → Long n o → unfitOutputs n o ≡ false
 long-fit n o l = rw (eq-eqb _ _ (l .from), eq-eqb _ _ (l .to), eq-eqb _ _ (l .wh))
 
 module _ (a : Account) (o : Outputs) where
-  met-unfit : (unfit a || unfitOutputs (days a) o) ≡ true → StatementMet a o 3 0 a o
+  met-unfit : unfitOutputs (days a) o ≡ true → StatementMet a o 3 0 a o
   met-unfit h = record { answers = rw h; gives = rw h; stays = refl; writes = rw h }
 
   pub met-from : (length (o .from) ≡ days a → ⊥) → StatementMet a o 3 0 a o
-  met-from h = met-unfit (rw (ne-eqb _ _ h) (or-true (unfit a)))
+  met-from h = met-unfit (rw (ne-eqb _ _ h))
 
   pub met-to : length (o .from) ≡ days a → (length (o .to) ≡ days a → ⊥) → StatementMet a o 3 0 a o
-  met-to f h = met-unfit (rw (eq-eqb _ _ f, ne-eqb _ _ h) (or-true (unfit a)))
+  met-to f h = met-unfit (rw (eq-eqb _ _ f, ne-eqb _ _ h))
 
   pub met-wh : length (o .from) ≡ days a → length (o .to) ≡ days a → (length (o .wh) ≡ days a → ⊥) → StatementMet a o 3 0 a o
-  met-wh f t h = met-unfit (rw (eq-eqb _ _ f, eq-eqb _ _ t, ne-eqb _ _ h) (or-true (unfit a)))
+  met-wh f t h = met-unfit (rw (eq-eqb _ _ f, eq-eqb _ _ t, ne-eqb _ _ h))
 
-  pub met-account : (r : ℕ) → r ≡ accountRows a 0 → r ≡ 3 → StatementMet a o 3 0 a o
-  met-account r is three = met-unfit (rw (unfit-by (unfit a) (sound a) (sym is ∙ three)))
+  pub met-account : (r : ℕ) → Long (days a) o → r ≡ accountRows a 0 → r ≡ 3 → StatementMet a o 3 0 a o
+  met-account r l is three =
+      let f = long-fit (days a) o l in
+      let u = unfit-by (unfit a) (sound a) (sym is ∙ three) in
+      record { answers = rw (f, u); gives = rw (f, u); stays = refl; writes = rw (f, u) }
 
   pub met-unsound : (r : ℕ) → Long (days a) o → r ≡ accountRows a 0 → (r ≡ 3 → ⊥) → (r ≡ 0 → ⊥) → StatementMet a o 5 0 a o
   met-unsound r l is not-three not-zero =
       let b = unsound-by (unfit a) (sound a) (λ h. not-three (is ∙ h)) (λ h. not-zero (is ∙ h)) in
       let f = long-fit (days a) o l in
-      record { answers = rw (b .0, f, b .1); gives = rw (b .0, f, b .1); stays = refl; writes = rw (b .0, f, b .1) }
+      record { answers = rw (f, b .0, b .1); gives = rw (f, b .0, b .1); stays = refl; writes = rw (f, b .0, b .1) }
 
   pub met-few : Long (days a) o → Checked a → howMany (shown a .readings .at) (suc (days a)) < 2 → (o′ : Outputs) → o′ ≡ zeroed o → StatementMet a o 11 0 a o′
   met-few l c few o′ clear =
       let f = long-fit (days a) o l in
       let less = lt-ltb _ _ few in
-      record { answers = rw (c .fits, f, c .sound, less); gives = rw (c .fits, f, c .sound, less); stays = refl; writes = rw (c .fits, f, c .sound, less) clear }
+      record { answers = rw (f, c .fits, c .sound, less); gives = rw (f, c .fits, c .sound, less); stays = refl; writes = rw (f, c .fits, c .sound, less) clear }
 
   pub met-parts : Long (days a) o → Checked a → 2 ≤ howMany (shown a .readings .at) (suc (days a)) → (o′ : Outputs) (r : ℕ) → Filled a o′ r → StatementMet a o 0 r a o′
   met-parts l c some o′ r h =
       let f = long-fit (days a) o l in
       let more = le-ltb _ _ some in
-      record { answers = rw (c .fits, f, c .sound, more); gives = rw (c .fits, f, c .sound, more) (h .how-many); stays = refl; writes = rw (c .fits, f, c .sound, more) (h .holds) }
+      record { answers = rw (f, c .fits, c .sound, more); gives = rw (f, c .fits, c .sound, more) (h .how-many); stays = refl; writes = rw (f, c .fits, c .sound, more) (h .holds) }
 
   pub ready : Long (days a) o → Checked a → 2 ≤ howMany (shown a .readings .at) (suc (days a)) → (o′ : Outputs) → o′ ≡ zeroed o → Fillable a o′
   ready l c some o′ clear =

@@ -4,9 +4,9 @@ use mathlib.Core.Bool.{Bool, true, false, _&&_}
 use mathlib.Core.List.{List}
 use Prim.Native.Nat.{ℕ, suc, _≤_, _<_}
 use native.Mathlib.Omega.{arith}
-use lib.Dec.{leb, ltb}
+use lib.Dec.{leb}
 use lib.ListN.{length}
-use borrow.Author.Tests.{le-leb, leb-true, ltb-false}
+use borrow.Author.Tests.{le-leb, leb-true}
 use Rattle.account.specs.Below.{howMany}
 use Rattle.account.specs.Stands.{Readings, firstReading, lastReading}
 use Rattle.account.specs.Account.{Account, shown, sound}
@@ -80,9 +80,9 @@ pub read : (n : ℕ) (r : Readings) (k : ℕ) → k ≤ n → r .at k ≡ true �
 read n r k h at =
     record { first = first-found (r .at) (suc n) k (omega arith) at; last = last-found (r .at) (suc n) k (omega arith) at }
 
-pub some-read : (n : ℕ) (r : Readings) → ltb (howMany (r .at) (suc n)) 2 ≡ false → Read n r
+pub some-read : (n : ℕ) (r : Readings) → 2 ≤ howMany (r .at) (suc n) → Read n r
 some-read n r two =
-    let k = found (r .at) (suc n) (omega (arith, ltb-false (howMany (r .at) (suc n)) 2 two)) in
+    let k = found (r .at) (suc n) (omega (arith, two)) in
     read n r (k .0) (omega (arith, k .1)) (k .2)
 
 module _ (w : List ℕ) (r : Readings) (valid : Valid w r) where

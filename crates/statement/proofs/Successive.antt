@@ -7,7 +7,7 @@ use Prim.Native.Nat.{ℕ, zero, suc, _-_, _≤_, _<_}
 use native.Mathlib.Decide.{le-ind}
 use native.Mathlib.Omega.{arith}
 use lib.ListN.{length, getD, length-append}
-use borrow.Author.Tests.{le-leb, lt-leb, lt-ltb, ltb-false}
+use borrow.Author.Tests.{le-leb, lt-leb, lt-ltb}
 use Rattle.account.specs.Below.{howMany, last}
 use Rattle.account.specs.Stands.{Stands, firstReading, lastReading}
 use Rattle.account.proofs.Below.{first-least, last-found, last-most, last-here, last-below}
@@ -134,7 +134,7 @@ successive w s two =
     let run = runs-all w s is in
     let number = counted w s is (suc n) (omega (arith, is .first .below)) in
     let some : 0 < length ps =
-    omega (arith, ltb-false (howMany (s .readings .at) (suc n)) 2 two, many-more (s .readings .at) (boundsPart n s) (suc n) (bounds-at w s is)) in
+    omega (arith, two, many-more (s .readings .at) (boundsPart n s) (suc n) (bounds-at w s is)) in
     record {
       not-empty = some;
       starts = written-at (λ x. x .from) n ps 0 some ∙ runs-first _ _ ps run some;

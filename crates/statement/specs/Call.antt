@@ -6,7 +6,8 @@ use lib.Dec.{eqb, ltb}
 use lib.ListN.{length}
 use Rattle.account.specs.Below.{howMany}
 use Rattle.account.specs.Stands.{Stands}
-use Rattle.account.specs.Account.{Account, days, shown, unfit, sound}
+use Rattle.account.specs.Account.{Account, days, shown}
+use Rattle.account.specs.Refusals.{accountRows}
 use Rattle.profile.specs.Rows.{row, ifDone, zeros}
 use Rattle.statement.specs.declared.StatementAnswer.{StatementAnswer}
 use Rattle.statement.specs.declared.StatementAnswer.the-variants.{Parts, Unfit, Unsound, TooFewReadings}
@@ -35,11 +36,14 @@ statementRows n s =
     row (ltb (howMany (s .readings .at) (suc n)) 2) 11  -- fewer than two readings
     0
 
+-- the table for an account and outputs that fit it, and for any outputs
+abbrev pub accountNumber : Account → ℕ
+accountNumber a = accountRows a (statementRows (days a) (shown a))
+
 abbrev pub statementNumber : Account → Outputs → ℕ
 statementNumber a o =
-    row (unfit a || unfitOutputs (days a) o) 3  -- n outside 1 to 1,096, or a lent length unfit
-    (row (not (sound a)) 5  -- account unsound
-    (statementRows (days a) (shown a)))
+    row (unfitOutputs (days a) o) 3  -- a lent length unfit
+    (accountNumber a)
 
 abbrev pub zeroed : Outputs → Outputs
 zeroed o = outputs (zeros (o .from)) (zeros (o .to)) (zeros (o .wh))

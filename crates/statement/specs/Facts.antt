@@ -5,7 +5,7 @@ use Prim.Native.Nat.{ℕ, suc, _+_, _-_, _*_, _≤_, _<_}
 use mathlib.Core.Path.{_≡_}
 use mathlib.Core.Bool.{Bool, true, false, _&&_}
 use mathlib.Core.List.{List}
-use lib.Dec.{leb, ltb}
+use lib.Dec.{leb}
 use lib.ListN.{length, getD}
 use Rattle.rounding.specs.Nearest.{nearest}
 use Rattle.account.specs.Below.{howMany}
@@ -21,7 +21,7 @@ pub record Valid (w : List ℕ) (r : Readings) : Type 0 where
 
 -- at least two readings stand
 abbrev pub TwoReadings : List ℕ → Stands → Type 0
-TwoReadings w s = ltb (howMany (s .readings .at) (suc (length w))) 2 ≡ false
+TwoReadings w s = 2 ≤ howMany (s .readings .at) (suc (length w))
 
 -- "Between adjacent readings at p and q with counts difference E, weight sum Z, a boundary k between them has count(p) + nearest(E × Zk / Z)";
 -- "A reading's boundary has its count." (proofs/Has, `has-rule`)

@@ -15,4 +15,4 @@ unfolding one quotient exponent cLow cHigh newton sqrtDown sqrtUp squareRoot sca
 high-is = refl
 
 pub near-one : NearOne
-near-one = record { within = rw (low-is, high-is) refl; ordered = rw (low-is, high-is) refl }
+near-one = rw (low-is, high-is) refl

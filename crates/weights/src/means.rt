@@ -33,7 +33,7 @@ pub(crate) fn serves(series: &[i16], count: usize) -> bool
     first_out(&series[..count]) >= count
 }
 
-// The temperature of four means in range, today's first.
+// The temperature of four means in range, today's first: nearest(sum / 15) of the means above the coldest, which are natural numbers.
 pub(crate) fn of_four(a: i16, b: i16, c: i16, d: i16) -> i16
     requires { ⌜ (inRange a ≡ true) × (inRange b ≡ true) × (inRange c ≡ true) × (inRange d ≡ true) ⌝ }
     ensures { λ r. ⌜ r ≡ temperatureOf a b c d ⌝ }

@@ -116,7 +116,7 @@ macro_rules! number {
         fn wide(self) -> u64 { self as i64 as u64 }
     })* };
 }
-number!(u8 u16 u32 u64 i16 i32);
+number!(u8 u16 u32 u64 i16);
 
 const GUARDS: usize = 3;
 

@@ -3,13 +3,14 @@
 use std::collections::BTreeSet;
 
 /// The three declarations, the type names of the third, and the crates with the numbers of the header's constants.
-const FILES: [&str; 6] = [
+const FILES: [&str; 7] = [
     "include/arvadush.h",
     "crates/ffi/src/lib.rt",
     "reference/compare/src/proved.rs",
     "reference/model/src/lib.rs",
     "crates/profile/src/lib.rt",
     "crates/report/src/lib.rt",
+    "crates/layout/src/lib.rt",
 ];
 
 /// The types of C as names of Rust's; another type of the header is a difference.
@@ -18,7 +19,7 @@ const C_TYPES: &str = "type size_t = usize; type uint8_t = u8; type uint16_t = u
 
 type Words<'a> = &'a [&'a str];
 
-fn texts() -> [String; 6] {
+fn texts() -> [String; 7] {
     let read = |file| std::fs::read_to_string(format!("{}/../../{file}", env!("CARGO_MANIFEST_DIR")));
     FILES.map(|file| read(file).unwrap_or_else(|error| panic!("{file}: {error}")))
 }
@@ -140,13 +141,13 @@ fn number(text: &str, constant: &str) -> u64 {
     after(&words(text), &format!("const {constant}: usize ="))[0][0].replace('_', "").parse().unwrap()
 }
 
-fn differences([header, ffi, proved, model, profile, report]: &[String; 6]) -> Vec<String> {
+fn differences([header, ffi, proved, model, profile, report, layout]: &[String; 7]) -> Vec<String> {
     let (header, rust) = (words(header), words(proved));
     let calls = [of_c(&meant(&header, &words(C_TYPES))), of_rust(&words(ffi)), of_rust(&meant(&rust, &words(model)))];
     let listed = after(&header, "enum {").into_iter().flat_map(|rest| parted(rest, "}").0.split(|word| *word == ","));
     let listed = listed.filter(|constant| !constant.is_empty()).map(|constant| constant.join(" ")).collect();
-    let (days, file) = (number(profile, "SPAN"), number(report, "BYTES_READ"));
-    let right = [("DAYS", days), ("BOUNDARIES", days + 1), ("FILE", file)];
+    let (days, file, text) = (number(profile, "SPAN"), number(report, "BYTES_READ"), number(layout, "TEXT_MOST"));
+    let right = [("DAYS", days), ("BOUNDARIES", days + 1), ("FILE", file), ("TEXT", text)];
     let right = right.map(|(name, value)| format!("ARVADUSH_{name} = {value}")).into();
     let constants = [("the header", listed), ("the crates", right)];
     let calls: Vec<_> = FILES.into_iter().zip(calls).collect();
@@ -209,6 +210,7 @@ fn faults_of_the_other_files_are_found() {
         (3, "type Mean = i16", "type Mean = i32"),
         (4, "SPAN: usize = 1_096", "SPAN: usize = 1_095"),
         (5, "BYTES_READ: usize = 16_384", "BYTES_READ: usize = 16_385"),
+        (6, "TEXT_MOST: usize = 72_390", "TEXT_MOST: usize = 72_389"),
     ];
     for (file, right, wrong) in faults {
         let text = &texts()[file];

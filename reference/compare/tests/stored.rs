@@ -55,6 +55,11 @@ fn the_output_of_the_program_for_all_cases() {
 }
 
 #[test]
+fn the_output_of_the_statement_program() {
+    assert_stored("crates/arvadush/stdout", &program(&bytes("crates/arvadush/stdin")));
+}
+
+#[test]
 fn the_output_of_the_console() {
     assert_stored("crates/console/stdout", &console(&bytes("crates/console/stdin")));
 }

@@ -4,7 +4,7 @@
 use crate::profile::Profile;
 use crate::{refused, Answer, Boundary, DONE};
 
-pub const CUT: u8 = 1;
+const CUT: u8 = 1;
 pub const READING: u8 = 2;
 pub const MOST_ENERGY: u64 = 2_000_000_000;
 

@@ -5,8 +5,8 @@ use crate::temperature::in_range;
 use crate::{account, refused, refused_at, statement, value, Answer, Mean, ProfileNumber, Weekday, DONE};
 
 pub const WEIGHTS: usize = 1_096;
-pub const MARKS: usize = 1_097;
-pub const COUNTS: usize = 1_097;
+const MARKS: usize = 1_097;
+const COUNTS: usize = 1_097;
 pub const MOST_BYTES: usize = 16_384;
 
 struct Contents {

@@ -4,7 +4,7 @@ use crate::account::{weight_sound, MOST_ENERGY};
 use crate::profile::Profile;
 use crate::{nearest, refused, Answer, DONE};
 
-pub const MOST_VALUE: u64 = 1_000_000_000_000;
+const MOST_VALUE: u64 = 1_000_000_000_000;
 
 /// The customer value in units of 0.1 Wh: nearest(energy × 10^7 / Z), Z the sum of the lent weights.
 pub fn customer_value(energy: u64, weights: &[u32]) -> (Answer, u64) {

@@ -115,7 +115,7 @@ impl Standing {
         answer
     }
 
-    pub fn weight_sum(&self, from: usize, to: usize) -> i128 {
+    fn weight_sum(&self, from: usize, to: usize) -> i128 {
         self.weights[from..to].iter().map(|weight| *weight as i128).sum()
     }
 

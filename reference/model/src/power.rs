@@ -16,7 +16,7 @@ pub fn divide(x: u128, d: u128, rounding: Rounding) -> u128 {
 }
 
 /// The square root of x, rounded to a whole number.
-pub fn square_root(x: u128, rounding: Rounding) -> u128 {
+fn square_root(x: u128, rounding: Rounding) -> u128 {
     let floor = x.isqrt();
     assert!(floor * floor <= x && x < (floor + 1) * (floor + 1));
     match rounding {
@@ -44,7 +44,7 @@ pub fn power(r: u128, c: u128, rounding: Rounding) -> u128 {
 }
 
 /// The exponent in units of 2^-24, from C in ten-millionths: cLow if rounded down, cHigh if rounded up.
-pub fn exponent(c: u128, rounding: Rounding) -> u128 {
+fn exponent(c: u128, rounding: Rounding) -> u128 {
     divide(c << 24, 10_000_000, rounding)
 }
 

@@ -31,7 +31,7 @@ returns c =
     let s = c .before .before in
     let first = length-alone (s .args .measured) _ (s .args .n) (c .before .choose .ensures) in
     let taken = measured-taken (outside s) (measured s) (forecast s) (s .args .n + 3) _ first (c .if1 .taken) in
-    record { series-is = taken .0; means-are = taken .1; measured-stays = refl; forecast-stays = refl }
+    record { series-is = taken .0; how-many = taken .1; measured-stays = refl; forecast-stays = refl }
 
 choose-requires-2 : tie.Need-choose-requires-2
 choose-requires-2 c κs = search needs
@@ -42,7 +42,7 @@ returns-2 c =
     let first = length-alone (s .args .measured) _ (s .args .n) (c .before .before .before .choose .ensures) in
     let second = length-alone (s .args .forecast) _ (s .args .n) (c .before .choose2 .ensures) in
     let taken = forecast-taken (outside s) (measured s) (forecast s) (s .args .n + 3) _ (some-means _) (sym first ∙ c .before .before .if1 .left) second (c .if2 .taken) in
-    record { series-is = taken .0; means-are = taken .1; measured-stays = refl; forecast-stays = refl }
+    record { series-is = taken .0; how-many = taken .1; measured-stays = refl; forecast-stays = refl }
 
 returns-3 : tie.Need-returns-3
 returns-3 c =
@@ -50,7 +50,7 @@ returns-3 c =
     let first = length-alone (s .args .measured) _ (s .args .n) (c .before .before .before .choose .ensures) in
     let second = length-alone (s .args .forecast) _ (s .args .n) (c .before .choose2 .ensures) in
     let taken = neither-taken (outside s) (measured s) (forecast s) (s .args .n + 3) (some-means _) (sym first ∙ c .before .before .if1 .left) (sym second ∙ c .if2 .left) in
-    record { series-is = taken .0; means-are = taken .1; measured-stays = refl; forecast-stays = refl }
+    record { series-is = taken .0; how-many = taken .1; measured-stays = refl; forecast-stays = refl }
 
 pub arvadush-choose-spec : {M : Type 1} → statement M
 arvadush-choose-spec =

@@ -29,7 +29,6 @@ returns c =
       places = c .before .before .value-place .ensures ∙ met .places;
       low = toZ-ofZ (sfits-of (c .before .value-low .ok)) ∙ c .before .value-low .ensures ∙ met .low;
       high = toZ-ofZ (sfits-of (c .value-high .ok)) ∙ c .value-high .ensures ∙ met .high;
-      powers-enclose = met .powers-enclose;
     }
 
 pub arvadush-value-spec : {M : Type 1} → statement M

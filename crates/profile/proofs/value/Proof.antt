@@ -21,7 +21,6 @@ returns c =
       places = refl;
       low = simp test;
       high = simp test;
-      powers-enclose = simp test (λ e. absurd (omega arith));
     }
 
 in-range-requires : tie.Need-in-range-requires
@@ -51,7 +50,6 @@ returns-2 c =
       places = refl;
       low = simp (test, range, v .low-is) (toZ-ofZ (low-fits k t known range));
       high = simp (test, range, v .high-is) (toZ-ofZ (high-fits k t known range));
-      powers-enclose = λ e. enclosed (profileOf k) t range;
     }
 
 -- row 4
@@ -64,7 +62,6 @@ returns-3 c =
       places = refl;
       low = simp (test, range);
       high = simp (test, range);
-      powers-enclose = simp (test, range) (λ e. absurd (omega arith));
     }
 
 pub value-spec : {M : Type 1} → statement M

@@ -8,7 +8,7 @@ next-requires : tie.Need-next-requires
 next-requires c κs = search needs
 
 returns : tie.Need-returns
-returns c = record { answers = c .next .ensures; stays = refl }
+returns c = record { gives = c .next .ensures; stays = refl }
 
 pub line-end-spec : {M : Type 1} → statement M
 line-end-spec = tie.close (tie.spec next-requires returns)

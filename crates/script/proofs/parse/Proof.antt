@@ -9,13 +9,13 @@ use Rattle.script.proofs.parse.Statement.{statement}
 use Rattle.script.proofs.parse.Tie as tie
 
 returns : tie.Need-returns
-returns c = record { answers = sym (blank (c .before .before .args .line .now) (c .if1 .taken)); stays = refl }
+returns c = record { gives = sym (blank (c .before .before .args .line .now) (c .if1 .taken)); stays = refl }
 
 shared-slice-read-if2 : tie.Need-shared-slice-read-if2
 shared-slice-read-if2 c = search needs
 
 returns-2 : tie.Need-returns-2
-returns-2 c = record { answers = sym (comment (c .before .before .before .before .args .line .now) (c .before .before .if1 .left) (c .if2 .taken)); stays = refl }
+returns-2 c = record { gives = sym (comment (c .before .before .before .before .args .line .now) (c .before .before .if1 .left) (c .if2 .taken)); stays = refl }
 
 next-requires : tie.Need-next-requires
 next-requires c κs = search needs
@@ -31,7 +31,7 @@ named-requires c κs = search needs
 returns-3 : tie.Need-returns-3
 returns-3 c =
     let test = c .before .before .before in
-    record { answers = c .named .ensures ∙ sym (call (c .before .before .before .before .before .before .before .args .line .now) (test .before .before .if1 .left) (test .if2 .left) (c .before .before .next .result) (c .before .before .next .ensures)); stays = refl }
+    record { gives = c .named .ensures ∙ sym (call (c .before .before .before .before .before .before .before .args .line .now) (test .before .before .if1 .left) (test .if2 .left) (c .before .before .next .result) (c .before .before .next .ensures)); stays = refl }
 
 pub parse-spec : {M : Type 1} → statement M
 parse-spec =

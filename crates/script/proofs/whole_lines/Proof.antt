@@ -8,7 +8,7 @@ use Rattle.script.proofs.whole_lines.Statement.{statement}
 use Rattle.script.proofs.whole_lines.Tie as tie
 
 returns : tie.Need-returns
-returns c = (record { answers = simp (le-leb (length (c .before .before .args .input .now)) scriptMost (c .if1 .taken)); stays = refl }, refl)
+returns c = (record { gives = simp (le-leb (length (c .before .before .args .input .now)) scriptMost (c .if1 .taken)); stays = refl }, refl)
 
 after-feed-requires : tie.Need-after-feed-requires
 after-feed-requires c κs = omega arith
@@ -16,7 +16,7 @@ after-feed-requires c κs = omega arith
 returns-2 : tie.Need-returns-2
 returns-2 c =
     let s = c .before .before .before .args .input .now in
-    (record { answers = simp (lt-leb (length s) scriptMost (c .before .if1 .left)) (c .after-feed .ensures); stays = refl }, refl)
+    (record { gives = simp (lt-leb (length s) scriptMost (c .before .if1 .left)) (c .after-feed .ensures); stays = refl }, refl)
 
 pub whole-lines-spec : {M : Type 1} → statement M
 whole-lines-spec = tie.close (tie.spec returns after-feed-requires returns-2)

@@ -56,7 +56,7 @@ gather-requires : tie.Need-gather-requires Inv-loop μ-loop
 gather-requires c κs =
     let t = c .before .before .before .before .before in
     let more = went t in
-    let within = line-within _ _ _ (more .0) (c .before .before .before .before .line-end .ensures .answers) in
+    let within = line-within _ _ _ (more .0) (c .before .before .before .before .line-end .ensures .gives) in
     (within .0, within .1, omega (arith, more .2, t .before .before .loop .inv .4))
 
 add-length : tie.Need-add-length Inv-loop μ-loop
@@ -68,10 +68,10 @@ add-length c =
     omega (arith, filled, same, start .good .1 .1 .1 .1 .1 .1 .1 .0)
 
 add-at : tie.Need-add-at Inv-loop μ-loop
-add-at c = omega (arith, line-within _ _ _ (went (c .before .before .before .before .before .before .before .before .before .before .before .before .before .before .before) .0) (c .before .before .before .before .before .before .before .before .before .before .before .before .before .before .line-end .ensures .answers))
+add-at c = omega (arith, line-within _ _ _ (went (c .before .before .before .before .before .before .before .before .before .before .before .before .before .before .before) .0) (c .before .before .before .before .before .before .before .before .before .before .before .before .before .before .line-end .ensures .gives))
 
 loop-less : tie.Need-loop-less Inv-loop μ-loop
-loop-less c = omega (arith, went (c .before .before .before .before .before .before .before .before .before .before .before .before .before .before .before) .0, line-within _ _ _ (went (c .before .before .before .before .before .before .before .before .before .before .before .before .before .before .before) .0) (c .before .before .before .before .before .before .before .before .before .before .before .before .before .before .line-end .ensures .answers))
+loop-less c = omega (arith, went (c .before .before .before .before .before .before .before .before .before .before .before .before .before .before .before) .0, line-within _ _ _ (went (c .before .before .before .before .before .before .before .before .before .before .before .before .before .before .before) .0) (c .before .before .before .before .before .before .before .before .before .before .before .before .before .before .line-end .ensures .gives))
 
 loop-again : tie.Need-loop-again Inv-loop μ-loop
 loop-again c =
@@ -84,7 +84,7 @@ loop-again c =
       going-more (a .text .now) (a .at) (a .done) (session (a .days) (account (a .weights .now) (a .marks .now) (a .counts .now))) (a .out .now)
           (l .at) (end .result) (l .done) (session (l .days) (account (l .weights) (l .marks) (l .counts))) (l .out) (l .length)
           (met .result) (account (met .last .1 .1 .1 .1 .1 .0) (met .last .1 .1 .1 .1 .1 .1 .0) (met .last .1 .1 .1 .1 .1 .1 .1 .0)) (met .last .1 .1 .1 .1 .1 .1 .1 .1 .0)
-          (l .inv .0) (more .0) (more .3) (end .ensures .answers) (met .ensures),
+          (l .inv .0) (more .0) (more .3) (end .ensures .gives) (met .ensures),
       omega arith,
       omega arith,
       omega arith,

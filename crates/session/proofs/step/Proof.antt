@@ -55,13 +55,13 @@ statement-requires : tie.Need-statement-requires
 statement-requires c κs = search needs
 
 returns : tie.Need-returns
-returns c = step-met _ (sym (c .before .before .parse .ensures .answers) ∙ c .enum-told .given .1) (record { ends = refl; stored = refl }) refl
+returns c = step-met _ (sym (c .before .before .parse .ensures .gives) ∙ c .enum-told .given .1) (record { ends = refl; stored = refl }) refl
 
 same-length : tie.Need-same-length
 same-length c = search needs
 
 returns-2 : tie.Need-returns-2
-returns-2 c = step-met _ (sym (c .before .before .before .before .before .before .parse .ensures .answers) ∙ c .before .before .before .before .enum-told2 .given .1) (c .before .before .unknown-text .ensures) refl
+returns-2 c = step-met _ (sym (c .before .before .before .before .before .before .parse .ensures .gives) ∙ c .before .before .before .before .enum-told2 .given .1) (c .before .before .unknown-text .ensures) refl
 
 same-length-2 : tie.Need-same-length-2
 same-length-2 c = search needs
@@ -83,7 +83,7 @@ returns-3 c =
     let then = account (given .last .1 .0) (given .last .1 .1 .0) (given .last .1 .1 .1 .0) in
     let o = weightsOffer (a .line .now) in
     let said = c .before .before .open-answer .ensures in
-    step-met {then = then} _ (sym (c .before .before .before .before .before .before .before .before .before .before .before .before .before .before .before .before .parse .ensures .answers) ∙ c .before .before .before .before .before .before .before .before .before .before .before .before .before .before .enum-told3 .given .1)
+    step-met {then = then} _ (sym (c .before .before .before .before .before .before .before .before .before .before .before .before .before .before .before .before .parse .ensures .gives) ∙ c .before .before .before .before .before .before .before .before .before .before .before .before .before .before .enum-told3 .given .1)
     (rw (opened-says o s (given .result) then (given .ensures)) at (said .0))
     (opened-session o s (given .result) then (given .ensures) _ (said .1))
 
@@ -107,7 +107,7 @@ returns-4 c =
     let then = account (given .last .1 .1 .1 .0) (given .last .1 .1 .1 .1 .0) (given .last .1 .1 .1 .1 .1 .0) in
     let o = daysOffer (c .before .before .before .before .before .before .before .before .before .before .before .before .before .before .before .command .given .0 .0) (c .before .before .before .before .before .before .before .before .before .before .before .before .before .before .before .command .given .0 .1 .0) (a .line .now) in
     let said = c .before .before .open-answer2 .ensures in
-    step-met {then = then} _ (sym (c .before .before .before .before .before .before .before .before .before .before .before .before .before .before .before .before .before .parse .ensures .answers) ∙ c .before .before .before .before .before .before .before .before .before .before .before .before .before .before .before .command .given .1)
+    step-met {then = then} _ (sym (c .before .before .before .before .before .before .before .before .before .before .before .before .before .before .before .before .before .parse .ensures .gives) ∙ c .before .before .before .before .before .before .before .before .before .before .before .before .before .before .before .command .given .1)
     (rw (opened-says o s (given .result) then (given .ensures)) at (said .0))
     (opened-session o s (given .result) then (given .ensures) _ (said .1))
 
@@ -129,7 +129,7 @@ returns-5 c =
     let s = session (a .days) (account (a .weights .now) (a .marks .now) (a .counts .now)) in
     let given = c .before .before .before .before .before .before .before .before .change in
     let then = account (a .weights .now) (given .last .1 .1 .1 .0) (given .last .1 .1 .1 .1 .0) in
-    step-met {then = then} _ (sym (c .before .before .before .before .before .before .before .before .before .before .before .before .before .before .before .parse .ensures .answers) ∙ c .before .before .before .before .before .before .before .before .before .before .before .before .before .command2 .given .1)
+    step-met {then = then} _ (sym (c .before .before .before .before .before .before .before .before .before .before .before .before .before .before .before .parse .ensures .gives) ∙ c .before .before .before .before .before .before .before .before .before .before .before .before .before .command2 .given .1)
     (rw (given .ensures .answers) at (c .before .before .answer-text .ensures))
     (ap (session (a .days)) {x = then} {y = laid (after (held (a .days) (s .buffers)) (c .before .before .before .before .before .before .before .before .before .before .before .before .before .command2 .given .0 .0)) (s .buffers)} (given .ensures .leaves))
 
@@ -146,7 +146,7 @@ same-length-17 : tie.Need-same-length-17
 same-length-17 c = search needs
 
 returns-6 : tie.Need-returns-6
-returns-6 c = step-met _ (sym (c .before .before .before .before .before .before .before .before .before .parse .ensures .answers) ∙ c .before .before .before .before .before .before .before .enum-told4 .given .1) (c .before .before .statement .ensures) refl
+returns-6 c = step-met _ (sym (c .before .before .before .before .before .before .before .before .before .parse .ensures .gives) ∙ c .before .before .before .before .before .before .before .enum-told4 .given .1) (c .before .before .statement .ensures) refl
 
 pub step-spec : {M : Type 1} → statement M
 step-spec =

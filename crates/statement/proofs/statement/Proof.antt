@@ -52,7 +52,7 @@ check-requires : tie.Need-check-requires
 check-requires c κs = tt
 
 returns-4 : tie.Need-returns-4
-returns-4 c = met-account _ _ _ (c .before .check .ensures .0 .answers) (c .if4 .taken)
+returns-4 c = met-account _ _ _ (long (c .before .before)) (c .before .check .ensures .0 .answers) (c .if4 .taken)
 
 returns-5 : tie.Need-returns-5
 returns-5 c = met-unsound _ _ _ (long (c .before .before .before)) (c .before .before .check .ensures .0 .answers) (c .before .if4 .left) (c .if5 .taken)

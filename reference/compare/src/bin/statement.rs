@@ -4,7 +4,7 @@ use std::io::{Read, Write};
 
 fn main() {
     let mut input = Vec::new();
-    std::io::stdin().take(16_384).read_to_end(&mut input).unwrap();
+    std::io::stdin().take(model::casefile::MOST_BYTES as u64).read_to_end(&mut input).unwrap();
     let text = match std::env::args().nth(1).as_deref() {
         Some("plain") => straight::plain::program(&input).into_bytes(),
         Some("same") => straight::same::program(&input),

@@ -41,8 +41,8 @@ use denote.Triple.Walked.{says, needs, Stays, stay-none-slice, gave-slice, walkO
 use denote.Exit.{yes}
 use denote.Triple.Clauses.{ensured, lasts}
 use Rattle.account.specs.Account.{account}
-use Rattle.casefile.specs.Faults.{faultOf}
-use Rattle.casefile.specs.Sections.{beforeCutsFault, AllClear, SpanMet, ReadingsFrom, ReadingsMet, CutsFrom, CutsMet, FillMet}
+use Rattle.casefile.specs.Faults.{faultOf, beforeCutsFault}
+use Rattle.casefile.specs.Sections.{AllClear, SpanMet, ReadingsFrom, ReadingsMet, CutsFrom, CutsMet, FillMet}
 use Rattle.casefile.specs.declared.reader.Reader.{Reader}
 use Rattle.casefile.specs.declared.sections.SectionEnd.{SectionEnd}
 use Rattle.casefile.proofs.Again.{LentAgain, lends-again, comes-back}

@@ -40,7 +40,8 @@ use denote.Triple.Table.{entered, cited}
 use denote.Triple.Walked.{says, needs, Stays, stay-none, gave-slice, walkOf, goes-none, goes-gave-slice, Walks, ends-at, walked, walk-meets}
 use denote.Exit.{yes}
 use denote.Triple.Clauses.{ensured, lasts}
-use Rattle.casefile.specs.Sections.{beforeCutsFault, ReadingsFrom, ReadingsMet}
+use Rattle.casefile.specs.Faults.{beforeCutsFault}
+use Rattle.casefile.specs.Sections.{ReadingsFrom, ReadingsMet}
 use Rattle.casefile.specs.declared.reader.Reader.{Reader}
 use Rattle.casefile.specs.declared.sections.SectionEnd.{SectionEnd}
 use Rattle.casefile.proofs.reader.Reader as T

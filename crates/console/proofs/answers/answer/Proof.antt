@@ -46,7 +46,7 @@ loop-holds c =
 
 -- the whole lines are within the input
 within : (c : tie.After-whole-lines Inv-loop μ-loop) → c .whole-lines .result ≤ length (c .before .before .before .before .before .before .args .input .now)
-within c = omega (arith, c .whole-lines .ensures .0 .answers, whole-within (c .before .before .before .before .before .before .args .input .now))
+within c = omega (arith, c .whole-lines .ensures .0 .gives, whole-within (c .before .before .before .before .before .before .args .input .now))
 
 slice-aggregate-run : tie.Need-slice-aggregate-run Inv-loop μ-loop
 slice-aggregate-run c = sym (length-take-le _ (c .before .before .before .before .before .before .before .before .before .before .args .input .now) (within (c .before .before .before .before)))
@@ -66,7 +66,7 @@ print-requires c κs =
     let loop = run .before .before .before .before .before .before .before in
     let lines = loop .before .before in
     let start = lines .before .before .before .before .before .before in
-    (sent-next (start .args .input .now) (lines .whole-lines .ensures .0 .answers) (loop .loop .inv .6) (run .run .ensures), loop .loop .inv .5)
+    (sent-next (start .args .input .now) (lines .whole-lines .ensures .0 .gives) (loop .loop .inv .6) (run .run .ensures), loop .loop .inv .5)
 
 failed-requires : tie.Need-failed-requires Inv-loop μ-loop
 failed-requires c κs = search needs
@@ -110,7 +110,7 @@ loop-again c = (
       let loop = run .before .before .before .before .before .before .before in
       let lines = loop .before .before in
       let start = lines .before .before .before .before .before .before in
-      sent-more (start .args .input .now) (lines .whole-lines .ensures .0 .answers) (loop .loop .inv .6) (run .run .ensures) (c .before .before .print .ensures),
+      sent-more (start .args .input .now) (lines .whole-lines .ensures .0 .gives) (loop .loop .inv .6) (run .run .ensures) (c .before .before .print .ensures),
 )
 
 same-length-5 : tie.Need-same-length-5 Inv-loop μ-loop
@@ -129,7 +129,7 @@ returns-2 : tie.Need-returns-2 Inv-loop μ-loop
 returns-2 c fine =
     let lines = c .before .before .before in
     let start = lines .before .before .before .before .before .before in
-    sent-all (start .args .input .now) (lines .whole-lines .ensures .0 .answers) (c .before .loop .inv .6) (c .loop-test .left)
+    sent-all (start .args .input .now) (lines .whole-lines .ensures .0 .gives) (c .before .loop .inv .6) (c .loop-test .left)
 
 pub answer-spec : {M : Type 1} → statement M
 answer-spec =

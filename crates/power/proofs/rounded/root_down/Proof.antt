@@ -4,7 +4,7 @@ use Prim.Native.Nat.{_+_, _*_, _≤_, _<_}
 use native.Mathlib.Nat.{mul-le-mul, mul-div-cancel, div-le-self}
 use native.Mathlib.Omega.{arith}
 use Rattle.power.specs.Power.{one}
-use Rattle.power.proofs.Root.{one-pos, mean-above, mean-below, square-pos, root-down-only}
+use Rattle.power.proofs.Root.{one-pos, mean-above, mean-below, square-pos, root-by-next, root-down-only}
 use Rattle.power.proofs.rounded.root_down.Statement.{statement}
 use Rattle.power.proofs.rounded.root_down.Tie as tie
 
@@ -51,7 +51,7 @@ loop-again c =
 
 returns : tie.Need-returns Inv-loop μ-loop
 unfolding one
-returns c = root-down-only _ _ (record { low = c .loop-test .left; next = c .before .loop .inv .1 })
+returns c = root-down-only _ _ (root-by-next _ _ (c .loop-test .left) (c .before .loop .inv .1))
 
 pub root-down-spec : {M : Type 1} → statement M
 root-down-spec =

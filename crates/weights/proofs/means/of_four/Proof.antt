@@ -1,9 +1,8 @@
 -- `weights::means::of_four` meets its contract (Temperature of a day): the rule of the four means, on raised ones (`Raised.of-four`).
 -- Assumes nothing.
 use borrow.Author.Needs.{needs, sfits-of}
-use mathlib.Core.Path.{_∙_}
+use mathlib.Core.Path.{_≡_, _∙_}
 use mir.Facts.{toZ-ofZ}
-use mathlib.Core.Path.{_≡_}
 use Prim.Native.Nat.{ℕ}
 use lib.IntN.{ℤ, pos, _+ℤ_}
 use mir.Syntax.{w16}
