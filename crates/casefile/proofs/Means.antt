@@ -6,6 +6,7 @@ use native.Mathlib.Numerals.{add-one}
 use lib.IntN.{ℤ}
 use lib.ListN.{length, set, take}
 use lib.Seq.{take-suc-set}
+use Rattle.weights.specs.Weights.{listOf}
 use Rattle.casefile.specs.Bytes.{signed16}
 use Rattle.casefile.specs.Case.{meanOffset, firstMeans}
 use Rattle.casefile.specs.Faults.{noFault, firstFault, meanFault}
@@ -17,12 +18,12 @@ pub record MeansRead (s : List ℕ) (means : List ℤ) (i : ℕ) : Type 0 where
   pub read : take i means ≡ firstMeans s i
 
 pub means-none : (s : List ℕ) (means : List ℤ) → MeansRead s means 0
-unfolding firstFault firstMeans
+unfolding firstFault listOf
 means-none s means = record { clean = refl; read = refl }
 
 pub means-more : {s : List ℕ} {means : List ℤ} {i : ℕ} → MeansRead s means i → i < length means → meanFault s i ≡ noFault
     → MeansRead s (set means i (signed16 s (meanOffset i))) (i + 1)
-unfolding firstMeans
+unfolding listOf
 means-more {s} {means} {i} r l e =
     record {
       clean = first-more (meanFault s) i (r .clean) e;

@@ -4,18 +4,17 @@ use mathlib.Core.Path.{_≡_, refl, sym, _∙_, ap}
 use mathlib.Core.Bool.{Bool, true, false, cond, not, _&&_}
 use mathlib.Core.List.{List, [], _∷_, _++_}
 use native.Mathlib.Omega.{arith}
-use native.Mathlib.Numerals.{add-one}
 use borrow.Author.Tests.{ltb-true, ltb-false, leb-true, leb-false, lt-ltb, le-ltb, le-leb, lt-leb, eq-eqb, not-false}
 use lib.Dec.{ltb, leb, leb·suc-suc}
 use lib.IntN.{ℤ}
-use lib.ListN.{length, take, drop, replicate, length-append, length-drop, length-replicate, getD-replicate}
+use lib.ListN.{length, take, drop, replicate, length-drop, length-replicate, getD-replicate}
 use lib.Seq.{ext-getD, getD-drop, length-take-le}
 use Rattle.profile.specs.Limits.{inRange, spanMost, profileCount, badSpan}
 use Rattle.account.proofs.Below.{both}
 use Rattle.profile.specs.Rows.{filled}
 use Rattle.weights.specs.Means.{firstOut, someOut}
-use Rattle.weights.specs.Weights.{weightsOf, WeightsMet}
-use Rattle.weights.proofs.Span.{weights-length}
+use Rattle.weights.specs.Weights.{listOf, weightsOf, WeightsMet}
+use Rattle.weights.proofs.Span.{listOf-length, weights-length}
 use Rattle.casefile.specs.declared.sections.SectionEnd.{SectionEnd}
 use Rattle.casefile.specs.Bytes.{byte, signed16}
 use Rattle.casefile.specs.Case.{profileByte, weekdayByte, meansLength, meanOffset, firstMeans, meansOf, daysOf}
@@ -54,9 +53,7 @@ head-none s e =
     }
 
 pub means-length : (s : List ℕ) (i : ℕ) → length (firstMeans s i) ≡ i
-unfolding firstMeans
-means-length s zero = refl
-means-length s (suc i) = length-append (firstMeans s i) _ ∙ add-one _ ∙ ap suc (means-length s i)
+means-length s i = listOf-length _ i
 
 -- one more mean
 out-more : (xs : List ℤ) (t : ℤ) → firstOut (xs ++ (t ∷ [])) ≡ cond (someOut xs) (firstOut xs) (cond (inRange t) (suc (length xs)) (length xs))
@@ -75,7 +72,7 @@ out-more (x ∷ xs) t = go (inRange x) (out-more xs t)
 
 -- the first fault of means that are all there is the first one out of range
 pub means-out : (s : List ℕ) (i : ℕ) → meanOffset i ≤ length s → firstFault (meanFault s) i ≡ fault (someOut (firstMeans s i)) 4 (meanOffset (firstOut (firstMeans s i)))
-unfolding firstMeans firstFault
+unfolding listOf firstFault
 means-out s zero l = refl
 means-out s (suc i) l =
     let n = means-length s (suc i) in
@@ -92,7 +89,7 @@ means-out s (suc i) l =
 
 -- means without a fault are all in range
 pub means-in : (s : List ℕ) (i : ℕ) → firstFault (meanFault s) i ≡ noFault → someOut (firstMeans s i) ≡ false
-unfolding firstMeans
+unfolding listOf
 means-in s zero e = refl
 means-in s (suc i) e =
     let m = passes (ltb (length s) (meanOffset i + 2)) 13 (length s) _ (none-before (meanFault s) (suc i) i (omega arith) e) in

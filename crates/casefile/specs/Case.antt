@@ -1,12 +1,12 @@
 -- What a case file names (Case file): "Sections in a fixed order, each after its 16-bit count, little-endian. Two bytes come first:
 -- profile, weekday of day 0. Then means (signed 16 bits), readings (boundary 16 bits, count 64 bits), cuts (boundary 16 bits)."
 use Prim.Native.Nat.{ℕ, zero, suc, _+_, _*_, _-_}
-use mathlib.Core.List.{List, [], _∷_, _++_}
+use mathlib.Core.List.{List}
 use lib.IntN.{ℤ}
 use lib.ListN.{replicate}
 use Rattle.account.specs.Account.{Account, account}
 use Rattle.account.specs.Calls.{readingPut, cutPut}
-use Rattle.weights.specs.Weights.{weightsOf}
+use Rattle.weights.specs.Weights.{listOf, weightsOf}
 use Rattle.casefile.specs.Bytes.{byte, number16, number64, signed16}
 
 abbrev pub profileByte : List ℕ → ℕ
@@ -22,9 +22,8 @@ meansLength s = number16 s 2
 abbrev pub meanOffset : ℕ → ℕ
 meanOffset i = 4 + 2 * i
 
-unfoldable pub firstMeans : List ℕ → ℕ → List ℤ
-firstMeans s zero = []
-firstMeans s (suc i) = firstMeans s i ++ (signed16 s (meanOffset i) ∷ [])
+abbrev pub firstMeans : List ℕ → ℕ → List ℤ
+firstMeans s = listOf (λ i. signed16 s (meanOffset i))
 
 abbrev pub meansOf : List ℕ → List ℤ
 meansOf s = firstMeans s (meansLength s)

@@ -1,7 +1,7 @@
 -- The text of an account, by what the statement call answers (Case file). Assumes nothing.
 use Prim.Native.Nat.{ℕ, _<_, _≤_}
 use mathlib.Core.Path.{_≡_, sym, ap, ap₂, _∙_}
-use mathlib.Core.Bool.{and-false, or-false}
+use mathlib.Core.Bool.{and-false}
 use mathlib.Core.List.{List, _++_}
 use native.Mathlib.Decide.{ℕ-discrete}
 use borrow.Author.Tests.{lt-leb, eq-eqb, ne-eqb}
@@ -10,8 +10,7 @@ use lib.Seq.{length-take-le, take-at}
 use Rattle.profile.specs.Limits.{spanMost}
 use Rattle.account.specs.Account.{Account, days, shown}
 use Rattle.statement.specs.Parts.{Outputs, parts, written}
-use Rattle.statement.specs.Call.{StatementMet, number, partCount, accountNumber, statementNumber, outputsAfter}
-use Rattle.statement.specs.declared.StatementAnswer.{StatementAnswer}
+use Rattle.statement.specs.Call.{StatementMet, accountNumber, statementNumber, outputsAfter}
 use Rattle.layout.specs.Text.{statementText, refusalText}
 use Rattle.layout.specs.Accounts.{accountText, answeredText}
 
@@ -23,24 +22,24 @@ pub too-long : (a : Account) → spanMost < days a → accountNumber a ≡ 3
 too-long a h = simp (lt-leb (days a) spanMost h, and-false)
 
 module _ (a : Account) (o : Outputs) (f : length (o .from) ≡ days a) (t : length (o .to) ≡ days a) (w : length (o .wh) ≡ days a)
-    (answer : StatementAnswer) (out : Outputs) (met : StatementMet a o (number answer) (partCount answer) a out) where
+    (number count : ℕ) (out : Outputs) (met : StatementMet a o number count a out) where
   same-number : statementNumber a o ≡ accountNumber a
-  same-number = simp (eq-eqb (length (o .from)) (days a) f, eq-eqb (length (o .to)) (days a) t, eq-eqb (length (o .wh)) (days a) w, or-false)
+  same-number = simp (eq-eqb (length (o .from)) (days a) f, eq-eqb (length (o .to)) (days a) t, eq-eqb (length (o .wh)) (days a) w)
 
-  given-says : statementNumber a o ≡ 0 → statementText out (partCount answer) ≡ statementText (written (days a) (parts (a .weights) (shown a))) (length (parts (a .weights) (shown a)))
+  given-says : statementNumber a o ≡ 0 → statementText out count ≡ statementText (written (days a) (parts (a .weights) (shown a))) (length (parts (a .weights) (shown a)))
   given-says done =
-      let count : partCount answer ≡ length (parts (a .weights) (shown a)) = met .gives ∙ simp done in
-      ap₂ statementText (met .writes ∙ ap (λ (n : ℕ). outputsAfter n (written (days a) (parts (a .weights) (shown a))) o) done) count
+      let all : count ≡ length (parts (a .weights) (shown a)) = met .gives ∙ simp done in
+      ap₂ statementText (met .writes ∙ ap (λ (n : ℕ). outputsAfter n (written (days a) (parts (a .weights) (shown a))) o) done) all
 
   -- what the call answered and wrote is what is printed of the account
-  pub answered-says : answeredText answer out ≡ accountText a
+  pub answered-says : answeredText number count out ≡ accountText a
   answered-says =
-      let is : number answer ≡ accountNumber a = met .answers ∙ same-number in
+      let is : number ≡ accountNumber a = met .answers ∙ same-number in
       by (ℕ-discrete (accountNumber a) 0) is (λ e. given-says (same-number ∙ e))
     where
-      by : Dec (accountNumber a ≡ 0) → number answer ≡ accountNumber a →
-          (accountNumber a ≡ 0 → statementText out (partCount answer) ≡ statementText (written (days a) (parts (a .weights) (shown a))) (length (parts (a .weights) (shown a)))) →
-          answeredText answer out ≡ accountText a
+      by : Dec (accountNumber a ≡ 0) → number ≡ accountNumber a →
+          (accountNumber a ≡ 0 → statementText out count ≡ statementText (written (days a) (parts (a .weights) (shown a))) (length (parts (a .weights) (shown a)))) →
+          answeredText number count out ≡ accountText a
       by (yes e) is given = rw (is, e) (given e)
       by (no n) is given = rw is (simp (ne-eqb (accountNumber a) 0 n))
 

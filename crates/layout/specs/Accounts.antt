@@ -5,8 +5,7 @@ use lib.ListN.{length}
 use Rattle.profile.specs.Rows.{ifDone}
 use Rattle.account.specs.Account.{Account, shown}
 use Rattle.statement.specs.Parts.{Outputs, parts, statementOf}
-use Rattle.statement.specs.Call.{number, partCount, accountNumber}
-use Rattle.statement.specs.declared.StatementAnswer.{StatementAnswer}
+use Rattle.statement.specs.Call.{accountNumber}
 use Rattle.layout.specs.Text.{statementText, refusalText}
 
 -- the statement of an account, or its refusal, which has no place
@@ -17,8 +16,8 @@ accountText a =
     (refusalText (accountNumber a) 0)
 
 -- what a statement call answered and wrote, as text
-abbrev pub answeredText : StatementAnswer → Outputs → List ℕ
-answeredText answer o = ifDone (number answer) (statementText o (partCount answer)) (refusalText (number answer) 0)
+abbrev pub answeredText : (number parts : ℕ) → Outputs → List ℕ
+answeredText number parts o = ifDone number (statementText o parts) (refusalText number 0)
 
 -- room for the text of any account: 21 digits for a number and a byte after it, so 28 for the line `parts`, 66 for each of 1,096 lines and
 -- 26 for `sum`

@@ -15,6 +15,7 @@ ghost use Rattle.account.specs.Below.{somewhere};
 ghost use Rattle.account.specs.Account.{energyMost, accountIn};
 ghost use Rattle.statement.specs.Parts.{outputs, outputsIn};
 ghost use Rattle.statement.specs.Shares.{total};
+ghost use Rattle.statement.specs.Call.{number, partCount};
 ghost use Rattle.layout.specs.Text.{LaidOut, TextMet, statementText, refusalText, doneText, unknownText, lineOf, partLines, partsText};
 ghost use Rattle.layout.specs.Accounts.{accountText, answeredText, textMost};
 
@@ -179,7 +180,7 @@ fn with_outputs(
 
 // What a statement call answered and wrote, as text at the start of out.
 fn answered(answer: StatementAnswer, from: &[u16], to: &[u16], wh: &[u64], out: &mut [u8]) -> usize
-    ensures { λ r. ⌜ LaidOut 0 (answeredText answer (outputsIn (from .entry) (to .entry) (wh .entry))) (now (out .entry)) r (now (out .exit)) ⌝ }
+    ensures { λ r. ⌜ LaidOut 0 (answeredText (number answer) (partCount answer) (outputsIn (from .entry) (to .entry) (wh .entry))) (now (out .entry)) r (now (out .exit)) ⌝ }
 {
     match answer {
         StatementAnswer::Parts(parts) => statement_text(from, to, wh, parts, out),

@@ -42,7 +42,7 @@ module _ (p : Profile) (t : ℤ) (r : inRange t ≡ true) where
   pub high-is : {n m : ℕ} → n ≡ ratioN p t → m ≡ ratioM p t → upperOf n m (p .c) ≡ highPower p t
   high-is e f = rw (e, f) (Laws.upper-of (ratioN p t) (ratioM p t) (p .c) divisor proper)
 
-  pub enclosed : EnclosedPower p t
+  enclosed : EnclosedPower p t
   enclosed = Laws.enclosed (ratioN p t) (ratioM p t) (p .c) divisor proper
 
 pub any-profile : AnyProfile

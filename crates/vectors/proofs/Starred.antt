@@ -10,6 +10,7 @@ use Rattle.power.proofs.Laws.{low-one, high-one}
 use Rattle.profile.specs.Limits.{inRange}
 use Rattle.profile.specs.Coefficients.{sumOf}
 use Rattle.weights.specs.Temperature.{temperatureOf}
+use Rattle.weights.specs.Weights.{listOf}
 use Rattle.rounding.specs.Nearest.{nearest}
 use Rattle.customer.specs.Customer.{customerValue}
 use Rattle.account.specs.Below.{everywhere, somewhere, howMany, first, last}
@@ -41,5 +42,5 @@ unfolding nearest
 of-sum w sum = rw sum
 
 pub starred : Starred
-unfolding inRange temperatureOf nearest everywhere somewhere howMany first last neverFalling lastLessFirst goodWeights goodMarks zeroCounts outOfOrder weightSum shareOf between has partsBelow sumOf
+unfolding inRange temperatureOf nearest everywhere somewhere howMany first last neverFalling lastLessFirst goodWeights goodMarks zeroCounts outOfOrder weightSum shareOf between has partsBelow sumOf listOf
 starred = (((refl, refl, refl), (refl, refl, refl), (refl, refl, refl)), (((refl, refl, refl), (refl, refl, refl), (refl, refl, refl), (refl, refl, refl), (refl, refl, refl)), ((low, high, low-whole, high-whole), ((refl, refl, refl), (((refl, refl, refl), (refl, refl, refl), (refl, refl, refl)), ((of-sum, refl, refl), ((refl, refl, refl, refl), ((refl, refl, refl), tt))))))))

@@ -10,7 +10,7 @@ use Rattle.power.specs.Power.{one, powerLow, powerHigh, pLow, pHigh}
 use Rattle.profile.specs.Limits.{minus}
 use Rattle.profile.specs.Coefficients.{sumOf}
 use Rattle.weights.specs.Temperature.{temperatureNumber, temperaturePlace, temperatureValue}
-use Rattle.weights.specs.Weights.{dayTemperature}
+use Rattle.weights.specs.Weights.{dayTemperature, listOf}
 use Rattle.account.specs.Account.{Account, account, days, shown}
 use Rattle.account.specs.Refusals.{openNumber, readingNumber, cutNumber}
 use Rattle.profile.specs.Rows.{ifDone}
@@ -64,8 +64,7 @@ stated a = statement.outputsAfter (statementNumber a (lent a)) (statementOf (a .
 
 -- m boundaries, one after the other from k on
 abbrev upFrom : ℕ → ℕ → List ℕ
-upFrom k zero = []
-upFrom k (suc m) = k ∷ upFrom (suc k) m
+upFrom k = listOf (λ i. k + i)
 
 -- the statement of this account is given: a part for each day, from its start to its end, and with these Wh
 abbrev Daily : Account → List ℕ → Type 0

@@ -10,7 +10,7 @@ use lib.ListN.{length, getD, length-append, List·getD-append}
 use lib.Seq.{getD-at}
 use Rattle.weights.specs.Weights.{listOf, dayWeight, weightsOf}
 
-pub listOf-length : (f : ℕ → ℕ) (n : ℕ) → length (listOf f n) ≡ n
+pub listOf-length : {A : Type 0} (f : ℕ → A) (n : ℕ) → length (listOf f n) ≡ n
 unfolding listOf
 listOf-length f zero = refl
 listOf-length f (suc n) = length-append (listOf f n) (f n ∷ []) ∙ add-one _ ∙ ap suc (listOf-length f n)

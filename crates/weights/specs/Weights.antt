@@ -26,7 +26,7 @@ abbrev pub dayWeight : ℕ → ℕ → List ℤ → ℕ → ℕ
 dayWeight profile weekday means k = weightOf profile ((weekday + k) % 7) (dayTemperature means k)
 
 -- f 0, f 1, .., f (n - 1)
-unfoldable pub listOf : (ℕ → ℕ) → ℕ → List ℕ
+unfoldable pub listOf : {A : Type 0} → (ℕ → A) → ℕ → List A
 listOf f zero = []
 listOf f (suc n) = listOf f n ++ (f n ∷ [])
 

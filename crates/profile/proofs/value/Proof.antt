@@ -1,14 +1,11 @@
 -- `profile::value` meets its contract (Profiles): its tests are those of the rows, in their order.
 -- Assumes nothing.
 use mathlib.Core.Path.{_≡_, refl, sym, _∙_}
-use native.Mathlib.Omega.{arith}
 use borrow.Author.Needs.{needs}
 use borrow.Author.Tests.{le-leb, lt-leb}
 use mir.Facts.{toZ-ofZ}
 use Rattle.profile.specs.Limits.{inRange}
-use Rattle.profile.specs.Coefficients.{profileOf}
 use Rattle.profile.proofs.Bounds.{low-fits, high-fits}
-use Rattle.profile.proofs.Power.{enclosed}
 use Rattle.profile.proofs.value.Statement.{statement}
 use Rattle.profile.proofs.value.Tie as tie
 
