@@ -12,7 +12,7 @@ import os
 import re
 import sys
 
-from wrong_programs import NOTHING, ROOT, UNFIT, check_with, in_copies
+from wrong_programs import NOTHING, ROOT, check_with, in_copies, unfit
 
 OTHERS = {
     "<": "<=", "<=": "<", ">": ">=", ">=": ">", "==": "!=", "!=": "==",
@@ -70,7 +70,7 @@ def try_change(copy, change):
     crate, path, number, line, other, text = change
     proved, first = check_with(copy, crate, {path: text})
     compiled = first != NOTHING and ("not proved" in first or ".antt" in first)
-    verdict = "proved" if proved else "not compiled" if not compiled else "unfit" if UNFIT in first else "refused"
+    verdict = "proved" if proved else "not compiled" if not compiled else "unfit" if unfit(first) else "refused"
     print(f"{verdict}: {crate}/{path}:{number + 1}: {line.strip()} => {other.strip()}", flush=True)
     return verdict
 

@@ -5,3 +5,4 @@ pub mod Account
 pub mod Refusals
 pub mod Calls
 pub mod Slices
+pub mod Functions

@@ -6,3 +6,4 @@ pub mod Reader
 pub mod Sections
 pub mod Agrees
 pub mod Length
+pub mod Functions

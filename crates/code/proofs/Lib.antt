@@ -1,2 +1,3 @@
--- The theorem of crate code (Case file).
+-- The theorems of crate code (Case file).
 pub mod Samples
+pub mod Called

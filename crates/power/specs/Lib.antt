@@ -1,2 +1,3 @@
 -- What the contracts and claims of crate power cite (Profile value).
 pub mod Power
+pub mod Functions

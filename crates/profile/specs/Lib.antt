@@ -6,3 +6,4 @@ pub mod Value
 pub mod Weight
 pub mod Answers
 pub mod Steps
+pub mod Functions

@@ -3,3 +3,4 @@ pub mod Words
 pub mod Numbers
 pub mod Calls
 pub mod Input
+pub mod Functions

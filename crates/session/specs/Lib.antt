@@ -5,3 +5,4 @@ pub mod Lines
 pub mod Transcript
 pub mod Script
 pub mod Numbers
+pub mod Functions

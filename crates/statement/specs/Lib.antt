@@ -5,3 +5,4 @@ pub mod Shares
 pub mod Facts
 pub mod Call
 pub mod Progress
+pub mod Functions

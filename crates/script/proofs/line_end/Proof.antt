@@ -4,6 +4,9 @@ use borrow.Author.Needs.{needs}
 use Rattle.script.proofs.line_end.Statement.{statement}
 use Rattle.script.proofs.line_end.Tie as tie
 
+pub calls-library : Rattle.script.specs.Functions.CallsLibrary Rattle.script.proofs.line_end.Code.function
+calls-library = tt
+
 next-requires : tie.Need-next-requires
 next-requires c κs = search needs
 

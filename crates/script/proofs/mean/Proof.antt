@@ -12,6 +12,9 @@ use borrow.Author.Needs.{needs}
 use Rattle.script.proofs.mean.Statement.{statement}
 use Rattle.script.proofs.mean.Tie as tie
 
+pub calls-library : Rattle.script.specs.Functions.CallsLibrary Rattle.script.proofs.mean.Code.function
+calls-library = tt
+
 returns : tie.Need-returns
 returns c = sym (no-mean (c .before .before .args .word .now) (c .if1 .taken))
 

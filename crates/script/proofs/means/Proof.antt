@@ -8,6 +8,9 @@ use borrow.Author.Needs.{needs}
 use Rattle.script.proofs.means.Statement.{statement}
 use Rattle.script.proofs.means.Tie as tie
 
+pub calls-library : Rattle.script.specs.Functions.CallsLibrary Rattle.script.proofs.means.Code.function
+calls-library = tt
+
 next-requires : tie.Need-next-requires
 next-requires c κs = search needs
 

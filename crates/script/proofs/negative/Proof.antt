@@ -11,6 +11,9 @@ use borrow.Author.Needs.{needs}
 use Rattle.script.proofs.negative.Statement.{statement}
 use Rattle.script.proofs.negative.Tie as tie
 
+pub calls-library : Rattle.script.specs.Functions.CallsLibrary Rattle.script.proofs.negative.Code.function
+calls-library = tt
+
 returns : tie.Need-returns
 returns c = rw (c .if1 .taken)
 

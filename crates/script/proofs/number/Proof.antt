@@ -11,6 +11,9 @@ use Rattle.script.proofs.Digits.{value-more, value-end, digits-more, di
 use Rattle.script.proofs.number.Statement.{statement}
 use Rattle.script.proofs.number.Tie as tie
 
+pub calls-library : Rattle.script.specs.Functions.CallsLibrary Rattle.script.proofs.number.Code.function
+calls-library = tt
+
 abbrev Inv-loop : tie.InvT-loop
 Inv-loop word most v₀ i₀ v i =
     (length word ≡ 0 → ⊥) ×

@@ -8,6 +8,9 @@ use borrow.Author.Needs.{needs}
 use Rattle.script.proofs.parse.Statement.{statement}
 use Rattle.script.proofs.parse.Tie as tie
 
+pub calls-library : Rattle.script.specs.Functions.CallsLibrary Rattle.script.proofs.parse.Code.function
+calls-library = tt
+
 returns : tie.Need-returns
 returns c = record { gives = sym (blank (c .before .before .args .line .now) (c .if1 .taken)); stays = refl }
 

@@ -4,6 +4,9 @@ use borrow.Author.Needs.{needs}
 use Rattle.script.proofs.weights.Statement.{statement}
 use Rattle.script.proofs.weights.Tie as tie
 
+pub calls-library : Rattle.script.specs.Functions.CallsLibrary Rattle.script.proofs.weights.Code.function
+calls-library = tt
+
 next-requires : tie.Need-next-requires
 next-requires c κs = search needs
 

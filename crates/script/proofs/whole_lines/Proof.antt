@@ -7,6 +7,9 @@ use Rattle.script.specs.Input.{scriptMost}
 use Rattle.script.proofs.whole_lines.Statement.{statement}
 use Rattle.script.proofs.whole_lines.Tie as tie
 
+pub calls-library : Rattle.script.specs.Functions.CallsLibrary Rattle.script.proofs.whole_lines.Code.function
+calls-library = tt
+
 returns : tie.Need-returns
 returns c = (record { gives = simp (le-leb (length (c .before .before .args .input .now)) scriptMost (c .if1 .taken)); stays = refl }, refl)
 

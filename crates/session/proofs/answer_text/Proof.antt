@@ -4,6 +4,9 @@ use borrow.Author.Needs.{needs}
 use Rattle.session.proofs.answer_text.Statement.{statement}
 use Rattle.session.proofs.answer_text.Tie as tie
 
+pub calls-library : Rattle.session.specs.Functions.CallsLibrary Rattle.session.proofs.answer_text.Code.function
+calls-library = tt
+
 done-text-requires : tie.Need-done-text-requires
 done-text-requires c κs = search needs
 

@@ -8,6 +8,9 @@ use borrow.Author.Needs.{needs}
 use Rattle.session.proofs.change.Statement.{statement}
 use Rattle.session.proofs.change.Tie as tie
 
+pub calls-library : Rattle.session.specs.Functions.CallsLibrary Rattle.session.proofs.change.Code.function
+calls-library = tt
+
 days-of-requires : tie.Need-days-of-requires
 days-of-requires c κs = search needs
 

@@ -6,6 +6,9 @@ use borrow.Author.Needs.{needs}
 use Rattle.session.proofs.on_account.Statement.{statement}
 use Rattle.session.proofs.on_account.Tie as tie
 
+pub calls-library : Rattle.session.specs.Functions.CallsLibrary Rattle.session.proofs.on_account.Code.function
+calls-library = tt
+
 enum-known-call : tie.Need-enum-known-call
 enum-known-call c = search needs
 

@@ -4,6 +4,9 @@ use Rattle.script.specs.Numbers.{most64}
 use Rattle.session.proofs.one_more.Statement.{statement}
 use Rattle.session.proofs.one_more.Tie as tie
 
+pub calls-library : Rattle.session.specs.Functions.CallsLibrary Rattle.session.proofs.one_more.Code.function
+calls-library = tt
+
 returns : tie.Need-returns
 returns c = simp (le-ltb (c .before .args .at) (c .before .args .end) (c .if1 .taken))
 

@@ -4,6 +4,9 @@ use borrow.Author.Needs.{needs}
 use Rattle.session.proofs.open_answer.Statement.{statement}
 use Rattle.session.proofs.open_answer.Tie as tie
 
+pub calls-library : Rattle.session.specs.Functions.CallsLibrary Rattle.session.proofs.open_answer.Code.function
+calls-library = tt
+
 answer-text-requires : tie.Need-answer-text-requires
 answer-text-requires c κs = search needs
 

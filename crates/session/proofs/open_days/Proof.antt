@@ -12,6 +12,9 @@ use borrow.Author.Needs.{needs}
 use Rattle.session.proofs.open_days.Statement.{statement}
 use Rattle.session.proofs.open_days.Tie as tie
 
+pub calls-library : Rattle.session.specs.Functions.CallsLibrary Rattle.session.proofs.open_days.Code.function
+calls-library = tt
+
 slice-aggregate-means : tie.Need-slice-aggregate-means
 slice-aggregate-means c = search needs
 

@@ -9,6 +9,9 @@ use borrow.Author.Needs.{needs}
 use Rattle.session.proofs.open_weights.Statement.{statement}
 use Rattle.session.proofs.open_weights.Tie as tie
 
+pub calls-library : Rattle.session.specs.Functions.CallsLibrary Rattle.session.proofs.open_weights.Code.function
+calls-library = tt
+
 slice-aggregate-weights : tie.Need-slice-aggregate-weights
 slice-aggregate-weights c = search needs
 

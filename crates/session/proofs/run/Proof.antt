@@ -15,6 +15,9 @@ use Rattle.session.proofs.Running.{Going, going-none, going-more, ran-m
 use Rattle.session.proofs.run.Statement.{statement}
 use Rattle.session.proofs.run.Tie as tie
 
+pub calls-library : Rattle.session.specs.Functions.CallsLibrary Rattle.session.proofs.run.Code.function
+calls-library = tt
+
 abbrev Inv-loop : tie.InvT-loop
 Inv-loop text at done days weights₀ marks₀ counts₀ out₀ at₀ done₀ days₀ length₀ weights marks counts out at' done' days' n =
     Going text at done (session days (account weights₀ marks₀ counts₀)) out₀ at' done' (session days' (account weights marks counts)) out n ×

@@ -9,6 +9,9 @@ use borrow.Author.Needs.{needs}
 use Rattle.session.proofs.step.Statement.{statement}
 use Rattle.session.proofs.step.Tie as tie
 
+pub calls-library : Rattle.session.specs.Functions.CallsLibrary Rattle.session.proofs.step.Code.function
+calls-library = tt
+
 parse-requires : tie.Need-parse-requires
 parse-requires c κs = search needs
 

@@ -9,6 +9,9 @@ use borrow.Author.Needs.{needs}
 use Rattle.script.proofs.calls.days.Statement.{statement}
 use Rattle.script.proofs.calls.days.Tie as tie
 
+pub calls-library : Rattle.script.specs.Functions.CallsLibrary Rattle.script.proofs.calls.days.Code.function
+calls-library = tt
+
 returns : tie.Need-returns
 returns c =
     let a = c .before .before .args in

@@ -6,6 +6,9 @@ use borrow.Author.Needs.{needs}
 use Rattle.script.proofs.calls.named.Statement.{statement}
 use Rattle.script.proofs.calls.named.Tie as tie
 
+pub calls-library : Rattle.script.specs.Functions.CallsLibrary Rattle.script.proofs.calls.named.Code.function
+calls-library = tt
+
 slice-aggregate-same : tie.Need-slice-aggregate-same
 slice-aggregate-same c = search needs
 

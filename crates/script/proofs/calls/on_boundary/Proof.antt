@@ -6,6 +6,9 @@ use borrow.Author.Needs.{needs}
 use Rattle.script.proofs.calls.on_boundary.Statement.{statement}
 use Rattle.script.proofs.calls.on_boundary.Tie as tie
 
+pub calls-library : Rattle.script.specs.Functions.CallsLibrary Rattle.script.proofs.calls.on_boundary.Code.function
+calls-library = tt
+
 only-number-requires : tie.Need-only-number-requires
 only-number-requires c κs = search needs
 

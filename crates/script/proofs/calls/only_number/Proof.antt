@@ -6,6 +6,9 @@ use borrow.Author.Needs.{needs}
 use Rattle.script.proofs.calls.only_number.Statement.{statement}
 use Rattle.script.proofs.calls.only_number.Tie as tie
 
+pub calls-library : Rattle.script.specs.Functions.CallsLibrary Rattle.script.proofs.calls.only_number.Code.function
+calls-library = tt
+
 returns : tie.Need-returns
 returns c =
     let a = c .before .before .args in

@@ -7,6 +7,9 @@ use borrow.Author.Needs.{needs}
 use Rattle.script.proofs.calls.reading.Statement.{statement}
 use Rattle.script.proofs.calls.reading.Tie as tie
 
+pub calls-library : Rattle.script.specs.Functions.CallsLibrary Rattle.script.proofs.calls.reading.Code.function
+calls-library = tt
+
 returns : tie.Need-returns
 returns c =
     let a = c .before .before .args in

@@ -11,6 +11,9 @@ use borrow.Author.Needs.{needs}
 use Rattle.script.proofs.calls.weekday_and_means.Statement.{statement}
 use Rattle.script.proofs.calls.weekday_and_means.Tie as tie
 
+pub calls-library : Rattle.script.specs.Functions.CallsLibrary Rattle.script.proofs.calls.weekday_and_means.Code.function
+calls-library = tt
+
 returns : tie.Need-returns
 returns c =
     let a = c .before .before .args in

@@ -13,6 +13,9 @@ use Rattle.script.proofs.Digits.{number-is, number-none, mean-is, mean-
 use Rattle.script.proofs.lists.all_of.Statement.{statement}
 use Rattle.script.proofs.lists.all_of.Tie as tie
 
+pub calls-library : Rattle.script.specs.Functions.CallsLibrary Rattle.script.proofs.lists.all_of.Code.function
+calls-library = tt
+
 abbrev Inv-loop : tie.InvT-loop
 Inv-loop kind line end at₀ at = every (isOf kind) (wordsLeft (drop at line)) ≡ every (isOf kind) (wordsLeft (drop end line))
 

@@ -14,6 +14,9 @@ use Rattle.script.proofs.Listing.{Filling, filling-none, filling-more, 
 use Rattle.script.proofs.lists.weights_from.Statement.{statement}
 use Rattle.script.proofs.lists.weights_from.Tie as tie
 
+pub calls-library : Rattle.script.specs.Functions.CallsLibrary Rattle.script.proofs.lists.weights_from.Code.function
+calls-library = tt
+
 abbrev Inv-loop : tie.InvT-loop
 Inv-loop line end out₀ at₀ i₀ out at i =
     (i ≤ at) × Filling (leading (isNumber most32) value (wordsLeft (drop end line))) out₀ i (leading (isNumber most32) value (wordsLeft (drop at line))) out

@@ -10,6 +10,9 @@ use Rattle.script.proofs.Input.{after-none, after-more}
 use Rattle.script.proofs.words.after_feed.Statement.{statement}
 use Rattle.script.proofs.words.after_feed.Tie as tie
 
+pub calls-library : Rattle.script.specs.Functions.CallsLibrary Rattle.script.proofs.words.after_feed.Code.function
+calls-library = tt
+
 abbrev Inv-loop : tie.InvT-loop
 Inv-loop text bytes end₀ end = (end ≤ bytes) × (afterFeed text end ≡ afterFeed text bytes)
 

@@ -8,6 +8,9 @@ use borrow.Author.Needs.{needs}
 use Rattle.script.proofs.words.after_word.Statement.{statement}
 use Rattle.script.proofs.words.after_word.Tie as tie
 
+pub calls-library : Rattle.script.specs.Functions.CallsLibrary Rattle.script.proofs.words.after_word.Code.function
+calls-library = tt
+
 add-next : tie.Need-add-next
 add-next c = search needs
 

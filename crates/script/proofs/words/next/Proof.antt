@@ -9,6 +9,9 @@ use Rattle.script.proofs.Split.{next-more, next-here, next-end}
 use Rattle.script.proofs.words.next.Statement.{statement}
 use Rattle.script.proofs.words.next.Tie as tie
 
+pub calls-library : Rattle.script.specs.Functions.CallsLibrary Rattle.script.proofs.words.next.Code.function
+calls-library = tt
+
 abbrev Inv-loop : tie.InvT-loop
 Inv-loop text at b i₀ i = next b text i ≡ next b text at
 

@@ -9,6 +9,9 @@ use Rattle.script.proofs.Split.{same-length, same-more, same-end}
 use Rattle.script.proofs.words.same.Statement.{statement}
 use Rattle.script.proofs.words.same.Tie as tie
 
+pub calls-library : Rattle.script.specs.Functions.CallsLibrary Rattle.script.proofs.words.same.Code.function
+calls-library = tt
+
 abbrev Inv-loop : tie.InvT-loop
 Inv-loop a b i₀ i = (length a ≡ length b) × (same (drop i a) (drop i b) ≡ same a b)
 

@@ -6,6 +6,9 @@ use Rattle.session.proofs.Running.{gathered-met}
 use Rattle.session.proofs.gathered.gather.Statement.{statement}
 use Rattle.session.proofs.gathered.gather.Tie as tie
 
+pub calls-library : Rattle.session.specs.Functions.CallsLibrary Rattle.session.proofs.gathered.gather.Code.function
+calls-library = tt
+
 sub-step : tie.Need-sub-step
 sub-step c = search needs
 

@@ -9,6 +9,9 @@ use Rattle.session.proofs.Parts.{copied}
 use Rattle.session.proofs.open.copy.Statement.{statement}
 use Rattle.session.proofs.open.copy.Tie as tie
 
+pub calls-library : Rattle.session.specs.Functions.CallsLibrary Rattle.session.proofs.open.copy.Code.function
+calls-library = tt
+
 abbrev Inv-loop : tie.InvT-loop
 Inv-loop fresh n weights₀ i₀ weights i = (i ≤ n) × (length weights ≡ length weights₀) × (weights ≡ take i fresh ++ drop i weights₀)
 

@@ -10,6 +10,9 @@ use borrow.Author.Needs.{needs}
 use Rattle.session.proofs.open.over.Statement.{statement}
 use Rattle.session.proofs.open.over.Tie as tie
 
+pub calls-library : Rattle.session.specs.Functions.CallsLibrary Rattle.session.proofs.open.over.Code.function
+calls-library = tt
+
 refused-requires : tie.Need-refused-requires
 refused-requires c κs = search needs
 

@@ -11,6 +11,9 @@ use borrow.Author.Needs.{needs}
 use Rattle.session.proofs.open.over_means.Statement.{statement}
 use Rattle.session.proofs.open.over_means.Tie as tie
 
+pub calls-library : Rattle.session.specs.Functions.CallsLibrary Rattle.session.proofs.open.over_means.Code.function
+calls-library = tt
+
 refused-requires : tie.Need-refused-requires
 refused-requires c κs = search needs
 
