@@ -5,4 +5,3 @@ pub mod Account
 pub mod Refusals
 pub mod Calls
 pub mod Slices
-pub mod Functions

@@ -6,4 +6,3 @@ pub mod Reader
 pub mod Sections
 pub mod Agrees
 pub mod Length
-pub mod Functions

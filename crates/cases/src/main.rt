@@ -1,7 +1,27 @@
 // The example files (Case file): each file that an argument names, its name and then the text that `arvadush` prints for it.
+use layout::TEXT_MOST;
 use libc::STDOUT_FILENO;
-use printing::print_case;
 use profile::Profile;
+use report::BYTES_READ;
+use report::case_text;
+
+// Prints the text of the case file that is read from fd, as `arvadush` does.
+fn print_case(fd: i32) {
+    let mut weights = [0u32; Profile::SPAN];
+    let mut marks = [0u8; Profile::SPAN + 1];
+    let mut counts = [0u64; Profile::SPAN + 1];
+    let mut file = [0u8; BYTES_READ];
+    let mut text = [0u8; TEXT_MOST];
+    let read = io::read_full(fd, &mut file);
+    let length = case_text(
+        &file[..read],
+        &mut weights,
+        &mut marks,
+        &mut counts,
+        &mut text,
+    );
+    io::write_all(STDOUT_FILENO, &text[..length]);
+}
 
 // The name of a file, and its text.
 fn print_named(path: &[u8]) {
@@ -12,10 +32,7 @@ fn print_named(path: &[u8]) {
         os::fail(path);
         return;
     }
-    let mut weights = [0u32; Profile::SPAN];
-    let mut marks = [0u8; Profile::SPAN + 1];
-    let mut counts = [0u64; Profile::SPAN + 1];
-    print_case(fd, &mut weights, &mut marks, &mut counts);
+    print_case(fd);
     libc::close(fd);
 }
 

@@ -5,24 +5,12 @@ use profile::Profile;
 use profile::ValueAnswer;
 use profile::WeightAnswer;
 use weights::TemperatureAnswer;
-ghost use Prim.Native.Nat.{_<_, _≤_, min, max};
-ghost use mathlib.Core.Path.{_≡_};
-ghost use lib.ListN.{length, take};
-ghost use lib.IntN.{pos, _+ℤ_};
-ghost use Rattle.profile.specs.Limits.{coldest};
-ghost use Rattle.vectors.specs.Near.{nearOne};
-ghost use Rattle.figures.specs.Near.{valueNearOne, spelling};
+ghost use Prim.Native.Nat.{_<_};
 
 // The least and the greatest of the weights seen so far.
 struct Range {
     least: u32,
     most: u32,
-}
-
-// A word of at most three letters, and how many it has.
-struct Spelling {
-    bytes: [u8; 3],
-    length: usize,
 }
 
 fn word(text: &[u8]) {
@@ -149,16 +137,12 @@ fn values() {
 }
 
 // Whether a value, in units of 10^-9, lies within 0.00001 of 1.
-fn near_one(low: i64, high: i64) -> bool
-    ensures { λ r. ⌜ r ≡ nearOne low high ⌝ }
-{
+fn near_one(low: i64, high: i64) -> bool {
     999_990_000 <= low && high <= 1_000_010_000
 }
 
 // Whether a profile's value at a temperature does; no value does not.
-fn value_near_one(profile: u8, t: i16) -> bool
-    ensures { λ r. ⌜ r ≡ valueNearOne profile t ⌝ }
-{
+fn value_near_one(profile: u8, t: i16) -> bool {
     match profile::value(profile, t) {
         ValueAnswer::Value { low, high } => near_one(low, high),
         ValueAnswer::NoProfile => false,
@@ -166,27 +150,13 @@ fn value_near_one(profile: u8, t: i16) -> bool
     }
 }
 
-fn spelled(yes: bool) -> Spelling
-    ensures { λ r. ⌜ (take (r .length) (r .bytes) ≡ spelling yes) × (r .length ≤ length (r .bytes)) ⌝ }
-{
-    if yes {
-        return Spelling {
-            bytes: [b'y', b'e', b's'],
-            length: 3,
-        };
-    }
-    Spelling {
-        bytes: [b'n', b'o', b' '],
-        length: 2,
-    }
-}
-
 fn near() {
     word(b"GHD33 at 800 within 0.00001 of 1: ");
-    let answer = spelled(value_near_one(3, 800));
-    let bytes = answer.bytes;
-    let length = answer.length;
-    word(&bytes[..length]);
+    if value_near_one(3, 800) {
+        word(b"yes");
+    } else {
+        word(b"no");
+    }
     end_line();
 }
 
@@ -222,9 +192,7 @@ fn weeks() {
     factors(9);
 }
 
-fn wider(range: Range, w: u32) -> Range
-    ensures { λ r. ⌜ (r .least ≡ min (range .least) w) × (r .most ≡ max (range .most) w) ⌝ }
-{
+fn wider(range: Range, w: u32) -> Range {
     let least = if w < range.least { w } else { range.least };
     let most = if range.most < w { w } else { range.most };
     Range { least, most }
@@ -251,7 +219,6 @@ fn over_week(profile: u8, t: i16, range: Range) -> Range {
 // The temperature that lies so many hundredths above the coldest.
 fn from_coldest(k: u16) -> i16
     requires { ⌜ k < 9000 ⌝ }
-    ensures { λ r. ⌜ r ≡ pos k +ℤ coldest ⌝ }
 {
     k as i16 + Profile::COLDEST
 }

@@ -5,7 +5,6 @@ use mathlib.Core.Path.{_≡_}
 use contract.Lifetimes
 use borrow.Fn.Kinds
 use denote.Ref.{now}
-use Rattle.code.specs.Asks.{AsksNothing}
 use Rattle.account.specs.Account.{accountIn}
 use Rattle.account.specs.Calls.{number, OpenMet}
 use Rattle.account.proofs.open.Kinds as open-kinds
@@ -28,6 +27,10 @@ use Rattle.statement.proofs.statement.Kinds as statement-kinds
 use Rattle.statement.proofs.statement.Reads as statement-reads
 use Rattle.history.specs.Run.{Step}
 use Rattle.history.specs.Run as run
+
+-- a function asks nothing of its caller: its `requires`, as the toolchain reads them, say nothing, whatever lifetimes and arguments it is given
+abbrev pub AsksNothing : {Lifetimes : Type 0} {Arguments : Lifetimes → Type 0} → ((κs : Lifetimes) → Arguments κs → Type 0) → Type 1
+AsksNothing {Lifetimes} {Arguments} requires = (κs : Lifetimes) (a : Arguments κs) → requires κs a ≡ Unit {0}
 
 -- a: what the function is given; r: what it answers; s: what its references show after it
 pub record Tied : Type 1 where

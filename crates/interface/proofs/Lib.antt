@@ -1,4 +1,2 @@
--- The theorems of crate interface (demands 1 and 3; If a call declines).
+-- The theorem of crate interface (demand 3).
 pub mod Names
-pub mod Entries
-pub mod Console

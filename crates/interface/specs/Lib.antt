@@ -1,4 +1,2 @@
--- What crate interface claims of exported calls (demands 1 and 3; If a call declines).
+-- What crate interface claims of the calls for C and Rust (demand 3).
 pub mod Named
-pub mod Entries
-pub mod Console

@@ -13,7 +13,7 @@ use lib.ListN.{length, length-append}
 use Rattle.layout.specs.Text.{digit, digits, decimal, Fewest, FewestDigits}
 
 -- a number with one place fewer
-fewer : (more n : ℕ) → n < 10 ^ suc (suc more) → n / 10 < 10 ^ suc more
+pub fewer : (more n : ℕ) → n < 10 ^ suc (suc more) → n / 10 < 10 ^ suc more
 fewer more n l = let high : n < 10 ^ suc more * 10 = rw pow-suc at l in div-lt-iff-lt-mul (lit< tt) .1 high
 
 place-more : (more n : ℕ) → n < 10 ^ suc more → digits (suc more) n ≡ digits more n

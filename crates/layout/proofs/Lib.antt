@@ -1,5 +1,6 @@
 -- The laws that the proofs of crate layout share, and its theorems (Case file).
 pub mod Decimal
+pub mod ReadBack
 pub mod Laid
 mod Sums
 pub mod Texts

@@ -1,4 +1,3 @@
 -- What the contracts and claims of crate layout cite (Case file, the program's output).
 pub mod Text
 pub mod Accounts
-pub mod Functions

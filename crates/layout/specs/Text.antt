@@ -1,10 +1,10 @@
 -- The printed statement and refusal (Case file): "First the number of parts, then from, to, Wh of each, then their sum. A refusal prints
 -- one line: `refused`, its number and the place (0 if it has none), single spaces between." Text is a list of ASCII codes.
-use Prim.Native.Nat.{ℕ, zero, suc, _+_, _-_, _/_, _%_, _^_, _≤_, _<_}
+use Prim.Native.Nat.{ℕ, zero, suc, _+_, _-_, _*_, _/_, _%_, _^_, _≤_, _<_}
 use mathlib.Core.Path.{_≡_}
-use mathlib.Core.Bool.{Bool, cond, _||_}
+use mathlib.Core.Bool.{Bool, true, cond, _&&_, _||_}
 use mathlib.Core.List.{List, [], _∷_, _++_}
-use lib.Dec.{ltb, eqb}
+use lib.Dec.{leb, ltb, eqb}
 use lib.ListN.{length, getD}
 use lib.Seq.{sets}
 use Rattle.account.specs.Below.{somewhere}
@@ -32,6 +32,22 @@ Fewest n k = (1 ≤ k) × (n < 10 ^ k) × (1 < k → 10 ^ (k - 1) ≤ n)
 -- a number of 64 bits is printed with the fewest digits, so no leading zero but in 0 itself (proofs/Decimal, `fewest-digits`)
 abbrev pub FewestDigits : Type 0
 FewestDigits = (n : ℕ) → n < 2 ^ 64 → Fewest n (length (decimal n))
+
+abbrev pub isDigit : ℕ → Bool
+isDigit x = leb 48 x && leb x 57
+
+unfoldable pub allDigits : List ℕ → Bool
+allDigits [] = true
+allDigits (x ∷ xs) = isDigit x && allDigits xs
+
+-- the value of digits that follow others of value v
+unfoldable pub valueAfter : ℕ → List ℕ → ℕ
+valueAfter v [] = v
+valueAfter v (x ∷ xs) = valueAfter (v * 10 + (x - 48)) xs
+
+-- a number of 64 bits is printed with digits alone, and they read as that number (proofs/ReadBack, `read-back`)
+abbrev pub ReadBack : Type 0
+ReadBack = (n : ℕ) → n < 2 ^ 64 → (allDigits (decimal n) ≡ true) × (valueAfter 0 (decimal n) ≡ n)
 
 abbrev pub space : List ℕ
 space = 32 ∷ []
@@ -79,13 +95,6 @@ statementText o m = cond (noStatement o m) [] (partsText o m (total o m))
 -- the one line of a refusal
 abbrev pub refusalText : ℕ → ℕ → List ℕ
 refusalText number place = refusedWord ++ decimal number ++ space ++ decimal place ++ lineFeed
-
--- `done`, and `unknown` with the number of a line: what the console prints besides
-abbrev pub doneText : List ℕ
-doneText = 100 ∷ 111 ∷ 110 ∷ 101 ∷ lineFeed
-
-abbrev pub unknownText : ℕ → List ℕ
-unknownText line = 117 ∷ 110 ∷ 107 ∷ 110 ∷ 111 ∷ 119 ∷ 110 ∷ 32 ∷ decimal line ++ lineFeed
 
 -- a text laid out in a lent slice from an offset on: the offset after it is returned, as much of it as fits is stored, the rest is untouched
 pub record LaidOut (at : ℕ) (text before : List ℕ) (next : ℕ) (after : List ℕ) : Type 0 where

@@ -16,7 +16,7 @@ ghost use Rattle.account.specs.Account.{energyMost, accountIn};
 ghost use Rattle.statement.specs.Parts.{outputs, outputsIn};
 ghost use Rattle.statement.specs.Shares.{total};
 ghost use Rattle.statement.specs.Call.{number, partCount};
-ghost use Rattle.layout.specs.Text.{LaidOut, TextMet, statementText, refusalText, doneText, unknownText, lineOf, partLines, partsText};
+ghost use Rattle.layout.specs.Text.{LaidOut, TextMet, statementText, refusalText, lineOf, partLines, partsText};
 ghost use Rattle.layout.specs.Accounts.{accountText, answeredText, textMost};
 
 // No text of a statement or a refusal is longer.
@@ -29,21 +29,6 @@ pub fn refusal_text(number: u8, place: usize, out: &mut [u8]) -> usize
     let at = put::word(out, 0, b"refused ");
     let at = put::number(out, at, number as u64, b' ');
     put::number(out, at, place as u64, b'\n')
-}
-
-// The word `done`, at the start of out.
-pub fn done_text(out: &mut [u8]) -> usize
-    ensures { λ r. ⌜ LaidOut 0 doneText (now (out .entry)) r (now (out .exit)) ⌝ }
-{
-    put::word(out, 0, b"done\n")
-}
-
-// The word `unknown` and the number of a line, at the start of out.
-pub fn unknown_text(line: usize, out: &mut [u8]) -> usize
-    ensures { λ r. ⌜ LaidOut 0 (unknownText line) (now (out .entry)) r (now (out .exit)) ⌝ }
-{
-    let at = put::word(out, 0, b"unknown ");
-    put::number(out, at, line as u64, b'\n')
 }
 
 // The text of a statement of so many parts, at the start of out; nothing where no statement can be like that.

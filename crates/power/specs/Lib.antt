@@ -1,3 +1,2 @@
 -- What the contracts and claims of crate power cite (Profile value).
 pub mod Power
-pub mod Functions

@@ -6,4 +6,3 @@ pub mod Value
 pub mod Weight
 pub mod Answers
 pub mod Steps
-pub mod Functions

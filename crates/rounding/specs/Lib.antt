@@ -1,4 +1,3 @@
 -- What the contracts and claims of crate rounding cite (the paper's first paragraph).
 pub mod Nearest
 pub mod Integers
-pub mod Functions

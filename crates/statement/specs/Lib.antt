@@ -5,4 +5,3 @@ pub mod Shares
 pub mod Facts
 pub mod Call
 pub mod Progress
-pub mod Functions

@@ -3,4 +3,3 @@ pub mod Means
 pub mod Temperature
 pub mod Weights
 pub mod Choose
-pub mod Functions

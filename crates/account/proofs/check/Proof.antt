@@ -12,9 +12,6 @@ use Rattle.account.proofs.Rows.{unfit-rows, unsound-rows, sound-rows, w
 use Rattle.account.proofs.check.Statement.{statement}
 use Rattle.account.proofs.check.Tie as tie
 
-pub calls-library : Rattle.account.specs.Functions.CallsLibrary Rattle.account.proofs.check.Code.function
-calls-library = tt
-
 abbrev lent : tie.Start → Account
 lent c = account (c .args .weights .now) (c .args .marks .now) (c .args .counts .now)
 

@@ -11,9 +11,6 @@ use Rattle.account.proofs.Stores.{Accepted, accepted, cut-more, leaves-
 use Rattle.account.proofs.cut.Statement.{statement}
 use Rattle.account.proofs.cut.Tie as tie
 
-pub calls-library : Rattle.account.specs.Functions.CallsLibrary Rattle.account.proofs.cut.Code.function
-calls-library = tt
-
 abbrev lent : tie.Start → Account
 lent c = account (c .args .weights .now) (c .args .marks .now) (c .args .counts .now)
 

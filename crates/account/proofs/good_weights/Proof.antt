@@ -16,9 +16,6 @@ use Rattle.account.proofs.Below.{every-zero, every-more, every-fails}
 use Rattle.account.proofs.good_weights.Statement.{statement}
 use Rattle.account.proofs.good_weights.Tie as tie
 
-pub calls-library : Rattle.account.specs.Functions.CallsLibrary Rattle.account.proofs.good_weights.Code.function
-calls-library = tt
-
 light : (x : ℕ) → x < weightLeast → goodWeight x ≡ false
 light x h = rw (lt-leb weightLeast x h)
 

@@ -3,9 +3,6 @@ use borrow.Author.Needs.{needs}
 use Rattle.account.proofs.number_of.Statement.{statement}
 use Rattle.account.proofs.number_of.Tie as tie
 
-pub calls-library : Rattle.account.specs.Functions.CallsLibrary Rattle.account.proofs.number_of.Code.function
-calls-library = tt
-
 enum-told : tie.Need-enum-told
 enum-told c = search needs
 

@@ -12,9 +12,6 @@ use Rattle.account.proofs.Stores.{leaves-done, leaves-refused}
 use Rattle.account.proofs.open.Statement.{statement}
 use Rattle.account.proofs.open.Tie as tie
 
-pub calls-library : Rattle.account.specs.Functions.CallsLibrary Rattle.account.proofs.open.Code.function
-calls-library = tt
-
 module _ (a : Account) where
   three : unfit a ≡ true → 3 ≡ openNumber a
   three e = rw e

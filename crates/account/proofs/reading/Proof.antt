@@ -11,9 +11,6 @@ use Rattle.account.proofs.Stores.{Accepted, accepted, reading-more, lea
 use Rattle.account.proofs.reading.Statement.{statement}
 use Rattle.account.proofs.reading.Tie as tie
 
-pub calls-library : Rattle.account.specs.Functions.CallsLibrary Rattle.account.proofs.reading.Code.function
-calls-library = tt
-
 abbrev lent : tie.Start → Account
 lent c = account (c .args .weights .now) (c .args .marks .now) (c .args .counts .now)
 

@@ -13,9 +13,6 @@ use Rattle.account.proofs.Stores.{Accepted, accepted, cut-least, cut-le
 use Rattle.account.proofs.uncut.Statement.{statement}
 use Rattle.account.proofs.uncut.Tie as tie
 
-pub calls-library : Rattle.account.specs.Functions.CallsLibrary Rattle.account.proofs.uncut.Code.function
-calls-library = tt
-
 abbrev lent : tie.Start → Account
 lent c = account (c .args .weights .now) (c .args .marks .now) (c .args .counts .now)
 

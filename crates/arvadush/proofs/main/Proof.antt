@@ -1,22 +1,31 @@
--- `arvadush::main` (Case file) ends, and prints one case. Assumes nothing.
-use mathlib.Core.Path.{refl}
+-- `arvadush::main` (Case file) is safe and ends: the file is as long as what was read, and the buffer holds any text. Assumes nothing.
+use mathlib.Core.Path.{sym}
+use native.Mathlib.Omega.{arith}
+use lib.Seq.{length-take-le}
 use borrow.Author.Needs.{needs}
-use Rattle.arvadush.specs.Traces.{PrintsOneCase, AsksNone}
-use Rattle.arvadush.proofs.main.Code.Mir as code
 use Rattle.arvadush.proofs.main.Statement.{statement}
 use Rattle.arvadush.proofs.main.Tie as tie
 
-pub prints-one-case : PrintsOneCase code.function
-prints-one-case = refl
+slice-aggregate-case-text : tie.Need-slice-aggregate-case-text
+slice-aggregate-case-text c = sym (length-take-le _ _ (omega arith))
 
-pub asks-none : AsksNone
-asks-none κs a = refl
-
-print-case-requires : tie.Need-print-case-requires
-print-case-requires c κs = search needs
-
-returns : tie.Need-returns
-returns c = search needs
+slice-aggregate-write-all : tie.Need-slice-aggregate-write-all
+slice-aggregate-write-all c = sym (length-take-le _ _ (omega arith))
 
 pub main-spec : {M : Type 1} → statement M
-main-spec = tie.close (tie.spec print-case-requires returns)
+main-spec =
+    tie.close
+    (tie.spec
+    (λ c. search needs)
+    (λ c κs. search needs)
+    (λ c. search needs)
+    slice-aggregate-case-text
+    (λ c. search needs)
+    (λ c. search needs)
+    (λ c. search needs)
+    (λ c. search needs)
+    (λ c κs. search needs)
+    (λ c. search needs)
+    slice-aggregate-write-all
+    (λ c κs. search needs)
+    (λ c. search needs))

@@ -1,14 +1,8 @@
--- `cases::main` (Case file) is safe and ends: the measure is the number of arguments that are left. It prints each. Assumes nothing.
+-- `cases::main` (Case file) is safe and ends: the measure is the number of arguments that are left. Assumes nothing.
 use Prim.Native.Nat.{_-_}
-use mathlib.Core.Path.{refl}
 use native.Mathlib.Omega.{arith}
-use Rattle.cases.specs.Traces.{PrintsEach}
-use Rattle.cases.proofs.main.Code.Mir as code
 use Rattle.cases.proofs.main.Statement.{statement}
 use Rattle.cases.proofs.main.Tie as tie
-
-pub prints-each : PrintsEach code.function
-prints-each = refl
 
 abbrev Inv-loop : tie.InvT-loop
 Inv-loop count i₀ i = Unit {0}

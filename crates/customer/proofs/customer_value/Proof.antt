@@ -15,9 +15,6 @@ use borrow.Author.Needs.{needs}
 use Rattle.customer.proofs.customer_value.Statement.{statement}
 use Rattle.customer.proofs.customer_value.Tie as tie
 
-pub calls-library : Rattle.customer.specs.Functions.CallsLibrary Rattle.customer.proofs.customer_value.Code.function
-calls-library = tt
-
 spanned : (w : List ℕ) → (length w ≡ 0 → ⊥) → length w ≤ spanMost → badSpan (length w) ≡ false
 spanned w some-days most = simp (le-leb 1 (length w) (omega arith), le-leb (length w) spanMost most)
 

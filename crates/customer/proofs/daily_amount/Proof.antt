@@ -7,9 +7,6 @@ use lib.Dec.{lit<}
 use Rattle.customer.proofs.daily_amount.Statement.{statement}
 use Rattle.customer.proofs.daily_amount.Tie as tie
 
-pub calls-library : Rattle.customer.specs.Functions.CallsLibrary Rattle.customer.proofs.daily_amount.Code.function
-calls-library = tt
-
 product-fits : (v x : ℕ) → v ≤ 1_000_000_000_000 → x ≤ 6_999_999 → v * x < 2 ^ 64
 product-fits v x hv hx = lt-of-le-of-lt (mul-le-mul hv hx) (lit< tt)
 

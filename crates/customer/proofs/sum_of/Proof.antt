@@ -12,9 +12,6 @@ use Rattle.profile.specs.Coefficients.{sumOf}
 use Rattle.customer.proofs.sum_of.Statement.{statement}
 use Rattle.customer.proofs.sum_of.Tie as tie
 
-pub calls-library : Rattle.customer.specs.Functions.CallsLibrary Rattle.customer.proofs.sum_of.Code.function
-calls-library = tt
-
 one-more : (w : List ℕ) (i : ℕ) → i < length w → sumOf (drop i w) ≡ getD w i 0 + sumOf (drop (i + 1) w)
 unfolding sumOf
 one-more w i h = rw (drop-cons w i 0 h, add-one)

@@ -11,9 +11,6 @@ use Rattle.ffi.proofs.Series.{length-alone, measured-taken, forecast-ta
 use Rattle.ffi.proofs.arvadush_choose.Statement.{statement}
 use Rattle.ffi.proofs.arvadush_choose.Tie as tie
 
-pub calls-library : Rattle.ffi.specs.Functions.CallsLibrary Rattle.ffi.proofs.arvadush_choose.Code.function
-calls-library = tt
-
 abbrev outside : tie.Start → Bool
 outside c = not (isSpan (c .args .n))
 

@@ -4,9 +4,6 @@ use borrow.Author.Needs.{needs}
 use Rattle.ffi.proofs.arvadush_customer_value.Statement.{statement}
 use Rattle.ffi.proofs.arvadush_customer_value.Tie as tie
 
-pub calls-library : Rattle.ffi.specs.Functions.CallsLibrary Rattle.ffi.proofs.arvadush_customer_value.Code.function
-calls-library = tt
-
 customer-value-requires : tie.Need-customer-value-requires
 customer-value-requires c κs = search needs
 

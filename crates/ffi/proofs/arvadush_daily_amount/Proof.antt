@@ -4,9 +4,6 @@ use borrow.Author.Needs.{needs}
 use Rattle.ffi.proofs.arvadush_daily_amount.Statement.{statement}
 use Rattle.ffi.proofs.arvadush_daily_amount.Tie as tie
 
-pub calls-library : Rattle.ffi.specs.Functions.CallsLibrary Rattle.ffi.proofs.arvadush_daily_amount.Code.function
-calls-library = tt
-
 daily-amount-requires : tie.Need-daily-amount-requires
 daily-amount-requires c κs = search needs
 

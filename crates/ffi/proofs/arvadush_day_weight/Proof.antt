@@ -4,9 +4,6 @@ use mir.Facts.{toZ-ofZ}
 use Rattle.ffi.proofs.arvadush_day_weight.Statement.{statement}
 use Rattle.ffi.proofs.arvadush_day_weight.Tie as tie
 
-pub calls-library : Rattle.ffi.specs.Functions.CallsLibrary Rattle.ffi.proofs.arvadush_day_weight.Code.function
-calls-library = tt
-
 day-weight-requires : tie.Need-day-weight-requires
 day-weight-requires c κs = search needs
 

@@ -3,9 +3,6 @@ use borrow.Author.Needs.{needs}
 use Rattle.ffi.proofs.arvadush_read.Statement.{statement}
 use Rattle.ffi.proofs.arvadush_read.Tie as tie
 
-pub calls-library : Rattle.ffi.specs.Functions.CallsLibrary Rattle.ffi.proofs.arvadush_read.Code.function
-calls-library = tt
-
 read-case-requires : tie.Need-read-case-requires
 read-case-requires c κs = search needs
 

@@ -4,9 +4,6 @@ use borrow.Author.Needs.{needs}
 use Rattle.ffi.proofs.arvadush_statement.Statement.{statement}
 use Rattle.ffi.proofs.arvadush_statement.Tie as tie
 
-pub calls-library : Rattle.ffi.specs.Functions.CallsLibrary Rattle.ffi.proofs.arvadush_statement.Code.function
-calls-library = tt
-
 statement-requires : tie.Need-statement-requires
 statement-requires c κs = search needs
 

@@ -5,9 +5,6 @@ use mir.Facts.{toZ-ofZ}
 use Rattle.ffi.proofs.arvadush_temperature.Statement.{statement}
 use Rattle.ffi.proofs.arvadush_temperature.Tie as tie
 
-pub calls-library : Rattle.ffi.specs.Functions.CallsLibrary Rattle.ffi.proofs.arvadush_temperature.Code.function
-calls-library = tt
-
 temperature-requires : tie.Need-temperature-requires
 temperature-requires c κs = search needs
 

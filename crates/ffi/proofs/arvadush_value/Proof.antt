@@ -5,9 +5,6 @@ use mir.Facts.{toZ-ofZ}
 use Rattle.ffi.proofs.arvadush_value.Statement.{statement}
 use Rattle.ffi.proofs.arvadush_value.Tie as tie
 
-pub calls-library : Rattle.ffi.specs.Functions.CallsLibrary Rattle.ffi.proofs.arvadush_value.Code.function
-calls-library = tt
-
 value-requires : tie.Need-value-requires
 value-requires c κs = search needs
 

@@ -4,9 +4,6 @@ use borrow.Author.Needs.{needs}
 use Rattle.ffi.proofs.arvadush_weights.Statement.{statement}
 use Rattle.ffi.proofs.arvadush_weights.Tie as tie
 
-pub calls-library : Rattle.ffi.specs.Functions.CallsLibrary Rattle.ffi.proofs.arvadush_weights.Code.function
-calls-library = tt
-
 weights-requires : tie.Need-weights-requires
 weights-requires c κs = search needs
 

@@ -7,9 +7,6 @@ use borrow.Author.Needs.{needs}
 use Rattle.layout.proofs.account_text.Statement.{statement}
 use Rattle.layout.proofs.account_text.Tie as tie
 
-pub calls-library : Rattle.layout.specs.Functions.CallsLibrary Rattle.layout.proofs.account_text.Code.function
-calls-library = tt
-
 refusal-text-requires : tie.Need-refusal-text-requires
 refusal-text-requires c κs = search needs
 

@@ -3,9 +3,6 @@ use borrow.Author.Needs.{needs}
 use Rattle.layout.proofs.answered.Statement.{statement}
 use Rattle.layout.proofs.answered.Tie as tie
 
-pub calls-library : Rattle.layout.specs.Functions.CallsLibrary Rattle.layout.proofs.answered.Code.function
-calls-library = tt
-
 enum-known-answer : tie.Need-enum-known-answer
 enum-known-answer c = search needs
 

@@ -6,9 +6,6 @@ use borrow.Author.Needs.{needs}
 use Rattle.layout.proofs.line.Statement.{statement}
 use Rattle.layout.proofs.line.Tie as tie
 
-pub calls-library : Rattle.layout.specs.Functions.CallsLibrary Rattle.layout.proofs.line.Code.function
-calls-library = tt
-
 number-requires : tie.Need-number-requires
 number-requires c κs = search needs
 

@@ -11,9 +11,6 @@ use Rattle.layout.proofs.Sums.{lines-none, lines-more}
 use Rattle.layout.proofs.lines.Statement.{statement}
 use Rattle.layout.proofs.lines.Tie as tie
 
-pub calls-library : Rattle.layout.specs.Functions.CallsLibrary Rattle.layout.proofs.lines.Code.function
-calls-library = tt
-
 abbrev Inv-loop : tie.InvT-loop
 Inv-loop from to wh parts out₀ at next₀ i₀ out next i = (i ≤ parts) × (next ≤ at + 63 * i) × (length out ≡ length out₀) × LaidOut at (partLines (outputs from to wh) i) out₀ next out
 

@@ -13,9 +13,6 @@ use Rattle.layout.proofs.Sums.{some-more}
 use Rattle.layout.proofs.part_too_great.Statement.{statement}
 use Rattle.layout.proofs.part_too_great.Tie as tie
 
-pub calls-library : Rattle.layout.specs.Functions.CallsLibrary Rattle.layout.proofs.part_too_great.Code.function
-calls-library = tt
-
 abbrev Inv-loop : tie.InvT-loop
 Inv-loop wh parts i₀ i = (i ≤ parts) × (somewhere (λ k. ltb energyMost (getD wh k 0)) i ≡ false)
 

@@ -5,9 +5,6 @@ use borrow.Author.Needs.{needs}
 use Rattle.layout.proofs.refusal_text.Statement.{statement}
 use Rattle.layout.proofs.refusal_text.Tie as tie
 
-pub calls-library : Rattle.layout.specs.Functions.CallsLibrary Rattle.layout.proofs.refusal_text.Code.function
-calls-library = tt
-
 slice-aggregate-word : tie.Need-slice-aggregate-word
 slice-aggregate-word c = search needs
 

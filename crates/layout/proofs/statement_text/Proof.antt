@@ -15,9 +15,6 @@ use borrow.Author.Needs.{needs}
 use Rattle.layout.proofs.statement_text.Statement.{statement}
 use Rattle.layout.proofs.statement_text.Tie as tie
 
-pub calls-library : Rattle.layout.specs.Functions.CallsLibrary Rattle.layout.proofs.statement_text.Code.function
-calls-library = tt
-
 -- with the lengths in order, there is a statement unless a part is too great
 in-order : (f t e : List ℕ) (m : ℕ) → (m ≡ 0 → ⊥) → m ≤ spanMost → m ≤ length f → m ≤ length t → m ≤ length e →
     noStatement (outputs f t e) m ≡ somewhere (λ i. ltb energyMost (getD e i 0)) m

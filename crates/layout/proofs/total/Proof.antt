@@ -14,9 +14,6 @@ use Rattle.statement.specs.Shares.{total}
 use Rattle.layout.proofs.total.Statement.{statement}
 use Rattle.layout.proofs.total.Tie as tie
 
-pub calls-library : Rattle.layout.specs.Functions.CallsLibrary Rattle.layout.proofs.total.Code.function
-calls-library = tt
-
 abbrev Inv-loop : tie.InvT-loop
 Inv-loop wh parts sum₀ i₀ sum i = (i ≤ parts) × (sum ≤ i * 2_000_000_000) × ((f t : List ℕ) → sum ≡ total (outputs f t wh) i)
 

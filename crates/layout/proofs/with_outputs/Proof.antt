@@ -10,9 +10,6 @@ use borrow.Author.Needs.{needs}
 use Rattle.layout.proofs.with_outputs.Statement.{statement}
 use Rattle.layout.proofs.with_outputs.Tie as tie
 
-pub calls-library : Rattle.layout.specs.Functions.CallsLibrary Rattle.layout.proofs.with_outputs.Code.function
-calls-library = tt
-
 slice-relend-prefix-statement : tie.Need-slice-relend-prefix-statement
 slice-relend-prefix-statement c = search needs
 

@@ -8,9 +8,6 @@ use Rattle.power.proofs.Laws.{enclosed, lower-of, upper-of}
 use Rattle.power.proofs.bounds.Statement.{statement}
 use Rattle.power.proofs.bounds.Tie as tie
 
-pub calls-library : Rattle.power.specs.Functions.CallsLibrary Rattle.power.proofs.bounds.Code.function
-calls-library = tt
-
 lower-requires : tie.Need-lower-requires
 lower-requires c κs = search needs
 

@@ -5,9 +5,6 @@ use Rattle.power.specs.Power.{lowerOf, pLow, cHigh}
 use Rattle.power.proofs.lower.Statement.{statement}
 use Rattle.power.proofs.lower.Tie as tie
 
-pub calls-library : Rattle.power.specs.Functions.CallsLibrary Rattle.power.proofs.lower.Code.function
-calls-library = tt
-
 bound-requires : tie.Need-bound-requires
 bound-requires c κs = search needs
 

@@ -5,9 +5,6 @@ use Rattle.power.specs.Power.{upperOf, pHigh, cLow}
 use Rattle.power.proofs.upper.Statement.{statement}
 use Rattle.power.proofs.upper.Tie as tie
 
-pub calls-library : Rattle.power.specs.Functions.CallsLibrary Rattle.power.proofs.upper.Code.function
-calls-library = tt
-
 bound-requires : tie.Need-bound-requires
 bound-requires c κs = search needs
 

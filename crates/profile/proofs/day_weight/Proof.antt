@@ -16,9 +16,6 @@ use Rattle.profile.proofs.Bounds.{whole-table}
 use Rattle.profile.proofs.day_weight.Statement.{statement}
 use Rattle.profile.proofs.day_weight.Tie as tie
 
-pub calls-library : Rattle.profile.specs.Functions.CallsLibrary Rattle.profile.proofs.day_weight.Code.function
-calls-library = tt
-
 -- an answer that gives no weight, where a row's number says so
 declined :
     {k w : ℕ} {t : ℤ} (r : WeightAnswer) (n : ℕ)

@@ -5,9 +5,6 @@ use Rattle.profile.specs.Limits.{inRange}
 use Rattle.profile.proofs.in_range.Statement.{statement}
 use Rattle.profile.proofs.in_range.Tie as tie
 
-pub calls-library : Rattle.profile.specs.Functions.CallsLibrary Rattle.profile.proofs.in_range.Code.function
-calls-library = tt
-
 returns : tie.Need-returns
 unfolding inRange
 returns c = simp (toZ-ofZ (c .before .fits .t), simp (toZ-ofZ (c .before .fits .t)) at (c .if1 .taken))

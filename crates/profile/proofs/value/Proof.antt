@@ -9,9 +9,6 @@ use Rattle.profile.proofs.Bounds.{low-fits, high-fits}
 use Rattle.profile.proofs.value.Statement.{statement}
 use Rattle.profile.proofs.value.Tie as tie
 
-pub calls-library : Rattle.profile.specs.Functions.CallsLibrary Rattle.profile.proofs.value.Code.function
-calls-library = tt
-
 -- row 1
 returns : tie.Need-returns
 returns c =

@@ -10,9 +10,6 @@ use borrow.Author.Needs.{needs}
 use Rattle.report.proofs.case_text.Statement.{statement}
 use Rattle.report.proofs.case_text.Tie as tie
 
-pub calls-library : Rattle.report.specs.Functions.CallsLibrary Rattle.report.proofs.case_text.Code.function
-calls-library = tt
-
 read-case-requires : tie.Need-read-case-requires
 read-case-requires c κs = search needs
 

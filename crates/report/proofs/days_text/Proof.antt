@@ -6,9 +6,6 @@ use borrow.Author.Needs.{needs}
 use Rattle.report.proofs.days_text.Statement.{statement}
 use Rattle.report.proofs.days_text.Tie as tie
 
-pub calls-library : Rattle.report.specs.Functions.CallsLibrary Rattle.report.proofs.days_text.Code.function
-calls-library = tt
-
 add-boundaries : tie.Need-add-boundaries
 add-boundaries c = search needs
 

@@ -9,9 +9,6 @@ use Rattle.rounding.proofs.Laws.{nearest-only, nearest-zero}
 use Rattle.rounding.proofs.nearest_of.Statement.{statement}
 use Rattle.rounding.proofs.nearest_of.Tie as tie
 
-pub calls-library : Rattle.rounding.specs.Functions.CallsLibrary Rattle.rounding.proofs.nearest_of.Code.function
-calls-library = tt
-
 down : (x d : ℕ) → (d ≡ 0 → ⊥) → x % d < d - x % d → x / d ≡ nearest x d
 down x d nz small =
     let pos : 0 < d = omega arith in

@@ -6,9 +6,6 @@ use Rattle.statement.proofs.CodeSums.{share-most}
 use Rattle.statement.proofs.cut_count.Statement.{statement}
 use Rattle.statement.proofs.cut_count.Tie as tie
 
-pub calls-library : Rattle.statement.specs.Functions.CallsLibrary Rattle.statement.proofs.cut_count.Code.function
-calls-library = tt
-
 mul-nearest-of : tie.Need-mul-nearest-of
 mul-nearest-of c = omega (arith, mul-le-mul (c .pre .energy) (c .pre .share), mul-le-mul (c .pre .energy) (c .pre .sum))
 

@@ -10,9 +10,6 @@ use Rattle.statement.proofs.CodeFill.{Reached, first-there, reached-fir
 use Rattle.statement.proofs.fill.Statement.{statement}
 use Rattle.statement.proofs.fill.Tie as tie
 
-pub calls-library : Rattle.statement.specs.Functions.CallsLibrary Rattle.statement.proofs.fill.Code.function
-calls-library = tt
-
 abbrev Inv-loop : tie.InvT-loop
 Inv-loop weights marks counts from₀ to₀ wh₀ n first done₀ q₀ from to wh done q = Reached (account weights marks counts) q (outputs from to wh) done
 

@@ -11,9 +11,6 @@ use Rattle.statement.proofs.CodeInterval.{Within, Room, room, starts-at
 use Rattle.statement.proofs.fill_interval.Statement.{statement}
 use Rattle.statement.proofs.fill_interval.Tie as tie
 
-pub calls-library : Rattle.statement.specs.Functions.CallsLibrary Rattle.statement.proofs.fill_interval.Code.function
-calls-library = tt
-
 abbrev Inv-loop : tie.InvT-loop
 Inv-loop weights marks counts q from₀ to₀ wh₀ p low high e z k₀ zk₀ reached₀ from to wh k zk reached =
     Within (account weights marks counts) p q low e z k zk (outputs from to wh) reached

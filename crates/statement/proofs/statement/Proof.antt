@@ -12,9 +12,6 @@ use Rattle.statement.proofs.CodeAnswers.{met-from, met-to, met-wh, met-
 use Rattle.statement.proofs.statement.Statement.{statement}
 use Rattle.statement.proofs.statement.Tie as tie
 
-pub calls-library : Rattle.statement.specs.Functions.CallsLibrary Rattle.statement.proofs.statement.Code.function
-calls-library = tt
-
 -- what was lent
 abbrev lent : tie.Start → Account
 lent c = account (c .args .weights .now) (c .args .marks .now) (c .args .counts .now)

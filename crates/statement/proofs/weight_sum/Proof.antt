@@ -9,9 +9,6 @@ use Rattle.statement.proofs.CodeSums.{sum-next, sum-most}
 use Rattle.statement.proofs.weight_sum.Statement.{statement}
 use Rattle.statement.proofs.weight_sum.Tie as tie
 
-pub calls-library : Rattle.statement.specs.Functions.CallsLibrary Rattle.statement.proofs.weight_sum.Code.function
-calls-library = tt
-
 abbrev Inv-loop : tie.InvT-loop
 Inv-loop weights p q sum₀ i₀ sum i = (p ≤ i) × (i ≤ q) × (sum ≡ weightSum weights p i)
 

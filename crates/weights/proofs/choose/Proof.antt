@@ -10,9 +10,6 @@ use Rattle.weights.proofs.Series.{serves-long}
 use Rattle.weights.proofs.choose.Statement.{statement}
 use Rattle.weights.proofs.choose.Tie as tie
 
-pub calls-library : Rattle.weights.specs.Functions.CallsLibrary Rattle.weights.proofs.choose.Code.function
-calls-library = tt
-
 slice-aggregate-result : tie.Need-slice-aggregate-result
 slice-aggregate-result c = search needs
 

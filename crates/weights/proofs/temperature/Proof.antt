@@ -12,9 +12,6 @@ use Rattle.profile.specs.Limits.{inRange}
 use Rattle.weights.proofs.temperature.Statement.{statement}
 use Rattle.weights.proofs.temperature.Tie as tie
 
-pub calls-library : Rattle.weights.specs.Functions.CallsLibrary Rattle.weights.proofs.temperature.Code.function
-calls-library = tt
-
 -- a mean that `in_range` was passed, from what it ensures of its answer
 out : {z : ℤ} {r : Bool} → SFits w16 z → r ≡ inRange (toZ w16 (ofZ w16 z)) → not r ≡ true → inRange z ≡ false
 out {z} {r} f e t = ap inRange (sym (toZ-ofZ f)) ∙ sym e ∙ not-true r t

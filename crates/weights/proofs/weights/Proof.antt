@@ -10,9 +10,6 @@ use borrow.Author.Needs.{needs}
 use Rattle.weights.proofs.weights.Statement.{statement}
 use Rattle.weights.proofs.weights.Tie as tie
 
-pub calls-library : Rattle.weights.specs.Functions.CallsLibrary Rattle.weights.proofs.weights.Code.function
-calls-library = tt
-
 fitting : (c : tie.Else3) → let a = c .before .before .before .before .args in Fit (a .means .now) (a .out .now)
 fitting c = record { four = c .before .before .if1 .left; span = c .before .if2 .left; room = c .if3 .left }
 

@@ -8,9 +8,6 @@ use Rattle.account.proofs.Clear.{Cleared, cleared-none, cleared-more, c
 use Rattle.account.proofs.marks.clear_counts.Statement.{statement}
 use Rattle.account.proofs.marks.clear_counts.Tie as tie
 
-pub calls-library : Rattle.account.specs.Functions.CallsLibrary Rattle.account.proofs.marks.clear_counts.Code.function
-calls-library = tt
-
 abbrev Inv-loop : tie.InvT-loop
 Inv-loop counts₀ k₀ counts k = Cleared counts₀ counts k
 

@@ -7,9 +7,6 @@ use Rattle.account.proofs.Clear.{Cleared, cleared-none, cleared-more, c
 use Rattle.account.proofs.marks.clear_marks.Statement.{statement}
 use Rattle.account.proofs.marks.clear_marks.Tie as tie
 
-pub calls-library : Rattle.account.specs.Functions.CallsLibrary Rattle.account.proofs.marks.clear_marks.Code.function
-calls-library = tt
-
 abbrev Inv-loop : tie.InvT-loop
 Inv-loop marks₀ k₀ marks k = Cleared marks₀ marks k
 

@@ -5,9 +5,6 @@ use lib.ListN.{List·getD-eq-default}
 use Rattle.account.proofs.marks.count_at.Statement.{statement}
 use Rattle.account.proofs.marks.count_at.Tie as tie
 
-pub calls-library : Rattle.account.specs.Functions.CallsLibrary Rattle.account.proofs.marks.count_at.Code.function
-calls-library = tt
-
 mul-result : tie.Need-mul-result
 mul-result c = search needs
 

@@ -11,9 +11,6 @@ use Rattle.account.proofs.Below.{some-zero, some-none, first-at, first-
 use Rattle.account.proofs.marks.first_reading.Statement.{statement}
 use Rattle.account.proofs.marks.first_reading.Tie as tie
 
-pub calls-library : Rattle.account.specs.Functions.CallsLibrary Rattle.account.proofs.marks.first_reading.Code.function
-calls-library = tt
-
 abbrev Inv-loop : tie.InvT-loop
 Inv-loop marks k₀ k = (k ≤ length marks) × (somewhere (λ j. marksReading (getD marks j 0)) k ≡ false)
 

@@ -3,9 +3,6 @@ use borrow.Author.Tests.{eq-eqb, ne-eqb}
 use Rattle.account.proofs.marks.is_cut.Statement.{statement}
 use Rattle.account.proofs.marks.is_cut.Tie as tie
 
-pub calls-library : Rattle.account.specs.Functions.CallsLibrary Rattle.account.proofs.marks.is_cut.Code.function
-calls-library = tt
-
 returns : tie.Need-returns
 returns c = simp (eq-eqb _ 1 (c .if1 .taken))
 

@@ -3,9 +3,6 @@ use borrow.Author.Tests.{eq-eqb, ne-eqb}
 use Rattle.account.proofs.marks.is_reading.Statement.{statement}
 use Rattle.account.proofs.marks.is_reading.Tie as tie
 
-pub calls-library : Rattle.account.specs.Functions.CallsLibrary Rattle.account.proofs.marks.is_reading.Code.function
-calls-library = tt
-
 returns : tie.Need-returns
 returns c = simp (eq-eqb _ 2 (c .if1 .taken))
 

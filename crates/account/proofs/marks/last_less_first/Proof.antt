@@ -5,9 +5,6 @@ use Rattle.account.proofs.Spread.{spread-made}
 use Rattle.account.proofs.marks.last_less_first.Statement.{statement}
 use Rattle.account.proofs.marks.last_less_first.Tie as tie
 
-pub calls-library : Rattle.account.specs.Functions.CallsLibrary Rattle.account.proofs.marks.last_less_first.Code.function
-calls-library = tt
-
 last-reading-requires : tie.Need-last-reading-requires
 last-reading-requires c κs = tt
 

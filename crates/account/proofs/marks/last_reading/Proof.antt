@@ -10,9 +10,6 @@ use Rattle.account.proofs.Below.{last-zero, last-here, last-below}
 use Rattle.account.proofs.marks.last_reading.Statement.{statement}
 use Rattle.account.proofs.marks.last_reading.Tie as tie
 
-pub calls-library : Rattle.account.specs.Functions.CallsLibrary Rattle.account.proofs.marks.last_reading.Code.function
-calls-library = tt
-
 abbrev Inv-loop : tie.InvT-loop
 Inv-loop marks k₀ k =
     (k ≤ length marks) × (last (λ j. marksReading (getD marks j 0)) (length marks) ≡ last (λ j. marksReading (getD marks j 0)) k)

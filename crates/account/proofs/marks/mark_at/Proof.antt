@@ -5,9 +5,6 @@ use lib.ListN.{List·getD-eq-default}
 use Rattle.account.proofs.marks.mark_at.Statement.{statement}
 use Rattle.account.proofs.marks.mark_at.Tie as tie
 
-pub calls-library : Rattle.account.specs.Functions.CallsLibrary Rattle.account.proofs.marks.mark_at.Code.function
-calls-library = tt
-
 shared-slice-read-result : tie.Need-shared-slice-read-result
 shared-slice-read-result c = search needs
 

@@ -11,9 +11,6 @@ use Rattle.account.proofs.Pass.{Passed, passed-none, passed-reading, pa
 use Rattle.account.proofs.soundness.good_boundaries.Statement.{statement}
 use Rattle.account.proofs.soundness.good_boundaries.Tie as tie
 
-pub calls-library : Rattle.account.specs.Functions.CallsLibrary Rattle.account.proofs.soundness.good_boundaries.Code.function
-calls-library = tt
-
 abbrev Inv-loop : tie.InvT-loop
 Inv-loop weights marks counts last₀ k₀ last k = (k ≤ length weights + 1) × Passed (account weights marks counts) k last
 

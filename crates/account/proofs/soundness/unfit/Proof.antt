@@ -10,9 +10,6 @@ use Rattle.account.specs.Account.{unfitLengths}
 use Rattle.account.proofs.soundness.unfit.Statement.{statement}
 use Rattle.account.proofs.soundness.unfit.Tie as tie
 
-pub calls-library : Rattle.account.specs.Functions.CallsLibrary Rattle.account.proofs.soundness.unfit.Code.function
-calls-library = tt
-
 module _ (n m c : ℕ) where
   short : n < 1 → true ≡ unfitLengths n m c
   short h = rw (lt-leb 1 n h)

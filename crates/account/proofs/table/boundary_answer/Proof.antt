@@ -10,9 +10,6 @@ use Rattle.account.proofs.Rows.{rows-refuse, rows-pass, rows-through, c
 use Rattle.account.proofs.table.boundary_answer.Statement.{statement}
 use Rattle.account.proofs.table.boundary_answer.Tie as tie
 
-pub calls-library : Rattle.account.specs.Functions.CallsLibrary Rattle.account.proofs.table.boundary_answer.Code.function
-calls-library = tt
-
 abbrev lent : tie.Start → Account
 lent c = account (c .args .weights .now) (c .args .marks .now) (c .args .counts .now)
 

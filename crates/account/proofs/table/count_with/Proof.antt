@@ -5,9 +5,6 @@ use Rattle.account.proofs.With.{put-here, put-other}
 use Rattle.account.proofs.table.count_with.Statement.{statement}
 use Rattle.account.proofs.table.count_with.Tie as tie
 
-pub calls-library : Rattle.account.specs.Functions.CallsLibrary Rattle.account.proofs.table.count_with.Code.function
-calls-library = tt
-
 returns : tie.Need-returns
 returns c =
     let a = c .before .before .args in

@@ -9,9 +9,6 @@ use Rattle.account.specs.Account.{marksReading}
 use Rattle.account.proofs.table.disagrees.Statement.{statement}
 use Rattle.account.proofs.table.disagrees.Tie as tie
 
-pub calls-library : Rattle.account.specs.Functions.CallsLibrary Rattle.account.proofs.table.disagrees.Code.function
-calls-library = tt
-
 abbrev either : ℕ → ℕ → ℕ → ℕ → ℕ → Bool
 either m c j k v = ltb j k && (marksReading m && ltb v c) || ltb k j && (marksReading m && ltb c v)
 

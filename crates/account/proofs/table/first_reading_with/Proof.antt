@@ -6,9 +6,6 @@ use Rattle.account.proofs.With.{first-with-at, first-with-before}
 use Rattle.account.proofs.table.first_reading_with.Statement.{statement}
 use Rattle.account.proofs.table.first_reading_with.Tie as tie
 
-pub calls-library : Rattle.account.specs.Functions.CallsLibrary Rattle.account.proofs.table.first_reading_with.Code.function
-calls-library = tt
-
 first-reading-requires : tie.Need-first-reading-requires
 first-reading-requires c κs = tt
 

@@ -7,9 +7,6 @@ use Rattle.account.proofs.Spread.{spread-made}
 use Rattle.account.proofs.table.last_less_first_with.Statement.{statement}
 use Rattle.account.proofs.table.last_less_first_with.Tie as tie
 
-pub calls-library : Rattle.account.specs.Functions.CallsLibrary Rattle.account.proofs.table.last_less_first_with.Code.function
-calls-library = tt
-
 last-reading-with-requires : tie.Need-last-reading-with-requires
 last-reading-with-requires c κs = c .before .before .pre
 

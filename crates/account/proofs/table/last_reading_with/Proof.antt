@@ -6,9 +6,6 @@ use Rattle.account.proofs.With.{last-with-at, last-with-after}
 use Rattle.account.proofs.table.last_reading_with.Statement.{statement}
 use Rattle.account.proofs.table.last_reading_with.Tie as tie
 
-pub calls-library : Rattle.account.specs.Functions.CallsLibrary Rattle.account.proofs.table.last_reading_with.Code.function
-calls-library = tt
-
 last-reading-requires : tie.Need-last-reading-requires
 last-reading-requires c κs = tt
 

@@ -8,9 +8,6 @@ use Rattle.account.specs.Slices.{nextRow}
 use Rattle.account.proofs.table.next_row.Statement.{statement}
 use Rattle.account.proofs.table.next_row.Tie as tie
 
-pub calls-library : Rattle.account.specs.Functions.CallsLibrary Rattle.account.proofs.table.next_row.Code.function
-calls-library = tt
-
 module _ (n m : ℕ) (b : Bool) where
   before : (n ≡ 0 → ⊥) → n ≡ nextRow n b m
   before h = rw (ne-eqb n 0 h)

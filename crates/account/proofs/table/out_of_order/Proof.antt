@@ -13,9 +13,6 @@ use Rattle.account.proofs.Below.{neither, some-zero, some-none, some-at
 use Rattle.account.proofs.table.out_of_order.Statement.{statement}
 use Rattle.account.proofs.table.out_of_order.Tie as tie
 
-pub calls-library : Rattle.account.specs.Functions.CallsLibrary Rattle.account.proofs.table.out_of_order.Code.function
-calls-library = tt
-
 -- none of the boundaries below j disagrees
 record Agree (r : Readings) (k v j : ℕ) : Type 0 where
   low : somewhere (belowEarlier r k v) j ≡ false

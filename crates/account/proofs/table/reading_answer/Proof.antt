@@ -15,9 +15,6 @@ use Rattle.account.proofs.Spread.{spread-is}
 use Rattle.account.proofs.table.reading_answer.Statement.{statement}
 use Rattle.account.proofs.table.reading_answer.Tie as tie
 
-pub calls-library : Rattle.account.specs.Functions.CallsLibrary Rattle.account.proofs.table.reading_answer.Code.function
-calls-library = tt
-
 module _ (a : Account) (k v : ℕ) where
   abbrev rest : ℕ
   rest = row (readsAt (a .marks) k) 7 (row (outOfOrder (days a) (shown a .readings) k v) 8 (row (tooMuch (days a) (shown a .readings) k v) 9 0))

@@ -6,9 +6,6 @@ use Rattle.account.proofs.Rows.{boundary-next}
 use Rattle.account.proofs.table.uncut_answer.Statement.{statement}
 use Rattle.account.proofs.table.uncut_answer.Tie as tie
 
-pub calls-library : Rattle.account.specs.Functions.CallsLibrary Rattle.account.proofs.table.uncut_answer.Code.function
-calls-library = tt
-
 boundary-answer-requires : tie.Need-boundary-answer-requires
 boundary-answer-requires c κs = tt
 

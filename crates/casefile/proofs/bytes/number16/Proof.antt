@@ -6,9 +6,6 @@ use Rattle.casefile.specs.Bytes.{little}
 use Rattle.casefile.proofs.bytes.number16.Statement.{statement}
 use Rattle.casefile.proofs.bytes.number16.Tie as tie
 
-pub calls-library : Rattle.casefile.specs.Functions.CallsLibrary Rattle.casefile.proofs.bytes.number16.Code.function
-calls-library = tt
-
 shared-slice-read-low : tie.Need-shared-slice-read-low
 shared-slice-read-low c = search needs
 

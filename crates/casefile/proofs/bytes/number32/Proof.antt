@@ -5,9 +5,6 @@ use Rattle.casefile.proofs.Numbers.{halves4}
 use Rattle.casefile.proofs.bytes.number32.Statement.{statement}
 use Rattle.casefile.proofs.bytes.number32.Tie as tie
 
-pub calls-library : Rattle.casefile.specs.Functions.CallsLibrary Rattle.casefile.proofs.bytes.number32.Code.function
-calls-library = tt
-
 number16-requires : tie.Need-number16-requires
 number16-requires c κs = search needs
 

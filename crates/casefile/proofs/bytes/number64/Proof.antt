@@ -5,9 +5,6 @@ use Rattle.casefile.proofs.Numbers.{halves8}
 use Rattle.casefile.proofs.bytes.number64.Statement.{statement}
 use Rattle.casefile.proofs.bytes.number64.Tie as tie
 
-pub calls-library : Rattle.casefile.specs.Functions.CallsLibrary Rattle.casefile.proofs.bytes.number64.Code.function
-calls-library = tt
-
 number32-requires : tie.Need-number32-requires
 number32-requires c κs = search needs
 

@@ -13,9 +13,6 @@ use Rattle.casefile.proofs.Numbers.{upper}
 use Rattle.casefile.proofs.bytes.signed.Statement.{statement}
 use Rattle.casefile.proofs.bytes.signed.Tie as tie
 
-pub calls-library : Rattle.casefile.specs.Functions.CallsLibrary Rattle.casefile.proofs.bytes.signed.Code.function
-calls-library = tt
-
 cast-result : tie.Need-cast-result
 cast-result c = search needs
 

@@ -4,9 +4,6 @@ use borrow.Author.Needs.{needs}
 use Rattle.casefile.proofs.clear.clear.Statement.{statement}
 use Rattle.casefile.proofs.clear.clear.Tie as tie
 
-pub calls-library : Rattle.casefile.specs.Functions.CallsLibrary Rattle.casefile.proofs.clear.clear.Code.function
-calls-library = tt
-
 clear-weights-requires : tie.Need-clear-weights-requires
 clear-weights-requires c κs = search needs
 

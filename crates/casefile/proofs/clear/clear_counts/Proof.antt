@@ -7,9 +7,6 @@ use Rattle.account.proofs.Clear.{Cleared, cleared-none, cleared-more, cleared-a
 use Rattle.casefile.proofs.clear.clear_counts.Statement.{statement}
 use Rattle.casefile.proofs.clear.clear_counts.Tie as tie
 
-pub calls-library : Rattle.casefile.specs.Functions.CallsLibrary Rattle.casefile.proofs.clear.clear_counts.Code.function
-calls-library = tt
-
 abbrev Inv-loop : tie.InvT-loop
 Inv-loop counts₀ i₀ counts i = Cleared counts₀ counts i
 

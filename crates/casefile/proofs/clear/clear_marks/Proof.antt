@@ -6,9 +6,6 @@ use Rattle.account.proofs.Clear.{Cleared, cleared-none, cleared-more, cleared-a
 use Rattle.casefile.proofs.clear.clear_marks.Statement.{statement}
 use Rattle.casefile.proofs.clear.clear_marks.Tie as tie
 
-pub calls-library : Rattle.casefile.specs.Functions.CallsLibrary Rattle.casefile.proofs.clear.clear_marks.Code.function
-calls-library = tt
-
 abbrev Inv-loop : tie.InvT-loop
 Inv-loop marks₀ i₀ marks i = Cleared marks₀ marks i
 

@@ -7,9 +7,6 @@ use Rattle.account.proofs.Clear.{Cleared, cleared-none, cleared-more, cleared-a
 use Rattle.casefile.proofs.clear.clear_weights.Statement.{statement}
 use Rattle.casefile.proofs.clear.clear_weights.Tie as tie
 
-pub calls-library : Rattle.casefile.specs.Functions.CallsLibrary Rattle.casefile.proofs.clear.clear_weights.Code.function
-calls-library = tt
-
 abbrev Inv-loop : tie.InvT-loop
 Inv-loop weights₀ i₀ weights i = Cleared weights₀ weights i
 

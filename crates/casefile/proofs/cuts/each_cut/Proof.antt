@@ -11,9 +11,6 @@ use Rattle.casefile.proofs.Marked.{CutsRead, cuts-none, cut-early, cut-
 use Rattle.casefile.proofs.cuts.each_cut.Statement.{statement}
 use Rattle.casefile.proofs.cuts.each_cut.Tie as tie
 
-pub calls-library : Rattle.casefile.specs.Functions.CallsLibrary Rattle.casefile.proofs.cuts.each_cut.Code.function
-calls-library = tt
-
 abbrev Inv-loop : tie.InvT-loop
 Inv-loop file at count days marks₀ low₀ i₀ marks low i = (i ≤ count) × (length marks ≡ length marks₀) × CutsRead file marks low i
 

@@ -4,9 +4,6 @@ use borrow.Author.Tests.{ne-eqb}
 use Rattle.casefile.proofs.cuts.with_cut.Statement.{statement}
 use Rattle.casefile.proofs.cuts.with_cut.Tie as tie
 
-pub calls-library : Rattle.casefile.specs.Functions.CallsLibrary Rattle.casefile.proofs.cuts.with_cut.Code.function
-calls-library = tt
-
 returns : tie.Need-returns
 returns c = rw (c .if1 .taken) refl
 

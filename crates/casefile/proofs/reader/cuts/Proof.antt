@@ -58,9 +58,6 @@ use Rattle.casefile.proofs.reader.cuts as self
 use Rattle.casefile.proofs.reader.cuts.Statement as stated
 use Rattle.casefile.proofs.reader.cuts.Code as code
 
-pub calls-library : Rattle.casefile.specs.Functions.CallsLibrary Rattle.casefile.proofs.reader.cuts.Code.function
-calls-library = tt
-
 -- the struct's type, over the signature's lifetimes
 abbrev B : Lfts 2 → RattleType
 B κs = T.the-row (namedLft 2 0 tt κs)

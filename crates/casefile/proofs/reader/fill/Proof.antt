@@ -76,9 +76,6 @@ use Rattle.casefile.proofs.reader.fill as self
 use Rattle.casefile.proofs.reader.fill.Statement as stated
 use Rattle.casefile.proofs.reader.fill.Code as code
 
-pub calls-library : Rattle.casefile.specs.Functions.CallsLibrary Rattle.casefile.proofs.reader.fill.Code.function
-calls-library = tt
-
 abbrev stayed : Stays (self.ended .signature .params) (self.ended .kept)
 stayed = (stay-none-slice (0 ∷ []) tt (plain (λ _. u8)) yes, (gave-slice (1 ∷ []) tt (plain (λ _. u32)), (gave-slice (2 ∷ []) tt (plain (λ _. u8)), (gave-slice (3 ∷ []) tt (plain (λ _. u64)), tt))))
 

@@ -42,9 +42,6 @@ use Rattle.casefile.proofs.reader.moved as moved
 use Rattle.casefile.proofs.reader.moved.Statement as stated
 use Rattle.casefile.proofs.reader.moved.Code as code
 
-pub calls-library : Rattle.casefile.specs.Functions.CallsLibrary Rattle.casefile.proofs.reader.moved.Code.function
-calls-library = tt
-
 -- the struct's type, over the signature's lifetimes
 abbrev B : Lfts 1 → RattleType
 B κs = T.the-row (namedLft 1 0 tt κs)

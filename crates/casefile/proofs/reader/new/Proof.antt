@@ -43,9 +43,6 @@ use Rattle.casefile.proofs.reader.new as new
 use Rattle.casefile.proofs.reader.new.Statement as stated
 use Rattle.casefile.proofs.reader.new.Code as code
 
-pub calls-library : Rattle.casefile.specs.Functions.CallsLibrary Rattle.casefile.proofs.reader.new.Code.function
-calls-library = tt
-
 abbrev stayed : Stays (new.ended .signature .params) (new.ended .kept)
 stayed = (stay-none-slice (0 ∷ []) tt (plain (λ _. u8)) yes, tt)
 

@@ -58,9 +58,6 @@ use Rattle.casefile.proofs.reader.readings as self
 use Rattle.casefile.proofs.reader.readings.Statement as stated
 use Rattle.casefile.proofs.reader.readings.Code as code
 
-pub calls-library : Rattle.casefile.specs.Functions.CallsLibrary Rattle.casefile.proofs.reader.readings.Code.function
-calls-library = tt
-
 -- the struct's type, over the signature's lifetimes
 abbrev B : Lfts 3 → RattleType
 B κs = T.the-row (namedLft 3 0 tt κs)

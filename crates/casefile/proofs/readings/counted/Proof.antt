@@ -10,9 +10,6 @@ use borrow.Author.Needs.{needs}
 use Rattle.casefile.proofs.readings.counted.Statement.{statement}
 use Rattle.casefile.proofs.readings.counted.Tie as tie
 
-pub calls-library : Rattle.casefile.specs.Functions.CallsLibrary Rattle.casefile.proofs.readings.counted.Code.function
-calls-library = tt
-
 add-number64 : tie.Need-add-number64
 add-number64 c = search needs
 

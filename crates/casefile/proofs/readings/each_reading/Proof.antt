@@ -14,9 +14,6 @@ use Rattle.casefile.proofs.Items.{ReadingsRead, sane, item-is, not-belo
 use Rattle.casefile.proofs.readings.each_reading.Statement.{statement}
 use Rattle.casefile.proofs.readings.each_reading.Tie as tie
 
-pub calls-library : Rattle.casefile.specs.Functions.CallsLibrary Rattle.casefile.proofs.readings.each_reading.Code.function
-calls-library = tt
-
 abbrev Inv-loop : tie.InvT-loop
 Inv-loop file at count days marks₀ counts₀ first last₀ low₀ i₀ marks counts last low i =
     (i ≤ count) × (first ≤ last) × (length marks ≡ length marks₀) × (length counts ≡ length counts₀) × ReadingsRead file marks counts low last i

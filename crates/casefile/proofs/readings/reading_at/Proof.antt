@@ -11,9 +11,6 @@ use borrow.Author.Needs.{needs}
 use Rattle.casefile.proofs.readings.reading_at.Statement.{statement}
 use Rattle.casefile.proofs.readings.reading_at.Tie as tie
 
-pub calls-library : Rattle.casefile.specs.Functions.CallsLibrary Rattle.casefile.proofs.readings.reading_at.Code.function
-calls-library = tt
-
 add-if1 : tie.Need-add-if1
 add-if1 c = search needs
 

@@ -5,9 +5,6 @@ use borrow.Author.Needs.{needs}
 use Rattle.casefile.proofs.readings.readings_at.Statement.{statement}
 use Rattle.casefile.proofs.readings.readings_at.Tie as tie
 
-pub calls-library : Rattle.casefile.specs.Functions.CallsLibrary Rattle.casefile.proofs.readings.readings_at.Code.function
-calls-library = tt
-
 returns : tie.Need-returns
 returns c = readings-unread (c .before .before .before .before .before .pre) (c .if1 .taken)
 

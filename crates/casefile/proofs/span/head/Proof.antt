@@ -12,9 +12,6 @@ use borrow.Author.Needs.{needs}
 use Rattle.casefile.proofs.span.head.Statement.{statement}
 use Rattle.casefile.proofs.span.head.Tie as tie
 
-pub calls-library : Rattle.casefile.specs.Functions.CallsLibrary Rattle.casefile.proofs.span.head.Code.function
-calls-library = tt
-
 refused-requires : tie.Need-refused-requires
 refused-requires c κs = search needs
 

@@ -17,9 +17,6 @@ use Rattle.casefile.proofs.Means.{MeansRead, means-none, means-more}
 use Rattle.casefile.proofs.span.means_at.Statement.{statement}
 use Rattle.casefile.proofs.span.means_at.Tie as tie
 
-pub calls-library : Rattle.casefile.specs.Functions.CallsLibrary Rattle.casefile.proofs.span.means_at.Code.function
-calls-library = tt
-
 abbrev Inv-loop : tie.InvT-loop
 Inv-loop file at count means₀ i₀ means i = (i ≤ count) × (length means ≡ length means₀) × MeansRead file means i
 

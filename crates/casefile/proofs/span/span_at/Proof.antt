@@ -6,9 +6,6 @@ use borrow.Author.Needs.{needs}
 use Rattle.casefile.proofs.span.span_at.Statement.{statement}
 use Rattle.casefile.proofs.span.span_at.Tie as tie
 
-pub calls-library : Rattle.casefile.specs.Functions.CallsLibrary Rattle.casefile.proofs.span.span_at.Code.function
-calls-library = tt
-
 head-requires : tie.Need-head-requires
 head-requires c κs = search needs
 

@@ -6,9 +6,6 @@ use Rattle.casefile.proofs.Weighing.{weighs}
 use Rattle.casefile.proofs.span.weigh.Statement.{statement}
 use Rattle.casefile.proofs.span.weigh.Tie as tie
 
-pub calls-library : Rattle.casefile.specs.Functions.CallsLibrary Rattle.casefile.proofs.span.weigh.Code.function
-calls-library = tt
-
 add-weights : tie.Need-add-weights
 add-weights c = search needs
 

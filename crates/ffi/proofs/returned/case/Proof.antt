@@ -8,9 +8,6 @@ use Rattle.ffi.specs.Calls.{outcomeOf}
 use Rattle.ffi.proofs.returned.case.Statement.{statement}
 use Rattle.ffi.proofs.returned.case.Tie as tie
 
-pub calls-library : Rattle.ffi.specs.Functions.CallsLibrary Rattle.ffi.proofs.returned.case.Code.function
-calls-library = tt
-
 -- what the answer tells
 abbrev tells : CaseAnswer → Outcome
 tells answer = outcomeOf (reader.number answer) (reader.place answer) (reader.days answer)

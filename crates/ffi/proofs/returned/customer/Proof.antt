@@ -8,9 +8,6 @@ use Rattle.ffi.specs.Calls.{outcomeOf}
 use Rattle.ffi.proofs.returned.customer.Statement.{statement}
 use Rattle.ffi.proofs.returned.customer.Tie as tie
 
-pub calls-library : Rattle.ffi.specs.Functions.CallsLibrary Rattle.ffi.proofs.returned.customer.Code.function
-calls-library = tt
-
 -- what the answer tells
 abbrev tells : CustomerAnswer → Outcome
 tells answer = outcomeOf (customer.number answer) 0 (customer.value answer)

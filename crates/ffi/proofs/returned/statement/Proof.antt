@@ -8,9 +8,6 @@ use Rattle.ffi.specs.Calls.{outcomeOf}
 use Rattle.ffi.proofs.returned.statement.Statement.{statement}
 use Rattle.ffi.proofs.returned.statement.Tie as tie
 
-pub calls-library : Rattle.ffi.specs.Functions.CallsLibrary Rattle.ffi.proofs.returned.statement.Code.function
-calls-library = tt
-
 -- what the answer tells
 abbrev tells : StatementAnswer → Outcome
 tells answer = outcomeOf (call.number answer) 0 (call.partCount answer)

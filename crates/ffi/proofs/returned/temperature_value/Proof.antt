@@ -6,9 +6,6 @@ use Rattle.weights.specs.Temperature.{value}
 use Rattle.ffi.proofs.returned.temperature_value.Statement.{statement}
 use Rattle.ffi.proofs.returned.temperature_value.Tie as tie
 
-pub calls-library : Rattle.ffi.specs.Functions.CallsLibrary Rattle.ffi.proofs.returned.temperature_value.Code.function
-calls-library = tt
-
 enum-known-answer : tie.Need-enum-known-answer
 enum-known-answer c = search needs
 

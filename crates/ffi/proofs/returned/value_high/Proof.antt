@@ -6,9 +6,6 @@ use Rattle.profile.specs.Answers.{highGiven}
 use Rattle.ffi.proofs.returned.value_high.Statement.{statement}
 use Rattle.ffi.proofs.returned.value_high.Tie as tie
 
-pub calls-library : Rattle.ffi.specs.Functions.CallsLibrary Rattle.ffi.proofs.returned.value_high.Code.function
-calls-library = tt
-
 enum-known-answer : tie.Need-enum-known-answer
 enum-known-answer c = search needs
 

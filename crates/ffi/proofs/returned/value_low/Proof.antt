@@ -6,9 +6,6 @@ use Rattle.profile.specs.Answers.{lowGiven}
 use Rattle.ffi.proofs.returned.value_low.Statement.{statement}
 use Rattle.ffi.proofs.returned.value_low.Tie as tie
 
-pub calls-library : Rattle.ffi.specs.Functions.CallsLibrary Rattle.ffi.proofs.returned.value_low.Code.function
-calls-library = tt
-
 enum-known-answer : tie.Need-enum-known-answer
 enum-known-answer c = search needs
 

@@ -8,9 +8,6 @@ use Rattle.ffi.specs.Calls.{outcomeOf}
 use Rattle.ffi.proofs.returned.weight.Statement.{statement}
 use Rattle.ffi.proofs.returned.weight.Tie as tie
 
-pub calls-library : Rattle.ffi.specs.Functions.CallsLibrary Rattle.ffi.proofs.returned.weight.Code.function
-calls-library = tt
-
 -- what the answer tells
 abbrev tells : WeightAnswer → Outcome
 tells answer = outcomeOf (weightAnswered answer) (weightPlaced answer) (weightGiven answer)

@@ -8,9 +8,6 @@ use Rattle.ffi.specs.Calls.{outcomeOf}
 use Rattle.ffi.proofs.returned.weights.Statement.{statement}
 use Rattle.ffi.proofs.returned.weights.Tie as tie
 
-pub calls-library : Rattle.ffi.specs.Functions.CallsLibrary Rattle.ffi.proofs.returned.weights.Code.function
-calls-library = tt
-
 -- what the answer tells
 abbrev tells : WeightsAnswer → Outcome
 tells answer = outcomeOf (span.number answer) (span.place answer) 0

@@ -16,9 +16,6 @@ use Rattle.layout.proofs.put.glyph.Reads as glyph-reads
 use Rattle.layout.proofs.put.+digits.{statement}
 use Rattle.layout.proofs.put.+digits.Tie.{close}
 
-pub calls-library : Rattle.layout.specs.Functions.CallsLibrary Rattle.layout.proofs.put.+digits.Code.digits-function
-calls-library = tt
-
 abbrev μ-digits : Measures 1 digits-kinds.ps ℕ
 μ-digits κs a = a .1 .1 .0
 

@@ -5,9 +5,6 @@ use lib.Seq.{set-out}
 use Rattle.layout.proofs.put.byte.Statement.{statement}
 use Rattle.layout.proofs.put.byte.Tie as tie
 
-pub calls-library : Rattle.layout.specs.Functions.CallsLibrary Rattle.layout.proofs.put.byte.Code.function
-calls-library = tt
-
 slice-write-out : tie.Need-slice-write-out
 slice-write-out c = search needs
 

@@ -6,9 +6,6 @@ use Rattle.layout.proofs.Laid.{then-laid}
 use Rattle.layout.proofs.put.number.Statement.{statement}
 use Rattle.layout.proofs.put.number.Tie as tie
 
-pub calls-library : Rattle.layout.specs.Functions.CallsLibrary Rattle.layout.proofs.put.number.Code.function
-calls-library = tt
-
 digits-requires : tie.Need-digits-requires
 digits-requires c κs = search needs
 

@@ -12,9 +12,6 @@ use lib.Seq.{sets, drop-cons}
 use Rattle.layout.proofs.put.word.Statement.{statement}
 use Rattle.layout.proofs.put.word.Tie as tie
 
-pub calls-library : Rattle.layout.specs.Functions.CallsLibrary Rattle.layout.proofs.put.word.Code.function
-calls-library = tt
-
 -- one byte more is stored
 step : (out word : List ℕ) (at i : ℕ) → i < length word →
     sets out (at + i) (drop i word) ≡ sets (set out (at + i) (getD word i 0)) (at + (i + 1)) (drop (i + 1) word)

@@ -8,9 +8,6 @@ use Rattle.power.proofs.AtMostOne.{ratio-le}
 use Rattle.power.proofs.by_roots.bound.Statement.{statement}
 use Rattle.power.proofs.by_roots.bound.Tie as tie
 
-pub calls-library : Rattle.power.specs.Functions.CallsLibrary Rattle.power.proofs.by_roots.bound.Code.function
-calls-library = tt
-
 returns : tie.Need-returns
 unfolding ofRatio
 returns c = rw (eq-eqb _ 0 (c .if1 .taken))

@@ -7,9 +7,6 @@ use Rattle.power.proofs.AtMostOne.{raise-le}
 use Rattle.power.proofs.by_roots.power.Statement.{statement}
 use Rattle.power.proofs.by_roots.power.Tie as tie
 
-pub calls-library : Rattle.power.specs.Functions.CallsLibrary Rattle.power.proofs.by_roots.power.Code.function
-calls-library = tt
-
 raise-requires : tie.Need-raise-requires
 raise-requires c κs = search needs
 

@@ -9,9 +9,6 @@ use Rattle.power.proofs.Steps.{raise-done, raise-turn}
 use Rattle.power.proofs.by_roots.raise.Statement.{statement}
 use Rattle.power.proofs.by_roots.raise.Tie as tie
 
-pub calls-library : Rattle.power.specs.Functions.CallsLibrary Rattle.power.proofs.by_roots.raise.Code.function
-calls-library = tt
-
 abbrev Inv-loop : tie.InvT-loop
 Inv-loop way r n p₀ left₀ p left = (raise way left r p ≡ raise way n r one) × (p ≤ one)
 

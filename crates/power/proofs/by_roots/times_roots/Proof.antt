@@ -9,9 +9,6 @@ use Rattle.power.proofs.Steps.{times-roots-done, times-roots-set, times
 use Rattle.power.proofs.by_roots.times_roots.Statement.{statement}
 use Rattle.power.proofs.by_roots.times_roots.Tie as tie
 
-pub calls-library : Rattle.power.specs.Functions.CallsLibrary Rattle.power.proofs.by_roots.times_roots.Code.function
-calls-library = tt
-
 abbrev Inv-loop : tie.InvT-loop
 Inv-loop way r p c root₀ q₀ left₀ root q left = (timesRoots way left root q c ≡ timesRoots way 24 r p c) × (root ≤ one) × (q ≤ one) × (left ≤ 24)
 

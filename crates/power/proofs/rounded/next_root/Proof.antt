@@ -12,9 +12,6 @@ use Rattle.power.proofs.AtMostOne.{next-le}
 use Rattle.power.proofs.rounded.next_root.Statement.{statement}
 use Rattle.power.proofs.rounded.next_root.Tie as tie
 
-pub calls-library : Rattle.power.specs.Functions.CallsLibrary Rattle.power.proofs.rounded.next_root.Code.function
-calls-library = tt
-
 -- the root rounded down, as `root_down` gives it, is at most one
 at-most-one : (r s : ℕ) → r ≤ one → s ≡ sqrtDown (r * one) → s ≤ one
 unfolding nextRoot squareRoot

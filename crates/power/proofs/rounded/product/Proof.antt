@@ -6,9 +6,6 @@ use Rattle.power.specs.Power.{one, scaledProduct}
 use Rattle.power.proofs.rounded.product.Statement.{statement}
 use Rattle.power.proofs.rounded.product.Tie as tie
 
-pub calls-library : Rattle.power.specs.Functions.CallsLibrary Rattle.power.proofs.rounded.product.Code.function
-calls-library = tt
-
 mul-quotient : tie.Need-mul-quotient
 unfolding one
 mul-quotient c = omega (arith, mul-le-mul (c .pre .0) (c .pre .1))

@@ -5,9 +5,6 @@ use Rattle.power.specs.Power.{quotient}
 use Rattle.power.proofs.rounded.quotient.Statement.{statement}
 use Rattle.power.proofs.rounded.quotient.Tie as tie
 
-pub calls-library : Rattle.power.specs.Functions.CallsLibrary Rattle.power.proofs.rounded.quotient.Code.function
-calls-library = tt
-
 enum-told : tie.Need-enum-told
 enum-told c = search needs
 

@@ -8,9 +8,6 @@ use Rattle.power.proofs.Root.{one-pos, mean-above, mean-below, square-p
 use Rattle.power.proofs.rounded.root_down.Statement.{statement}
 use Rattle.power.proofs.rounded.root_down.Tie as tie
 
-pub calls-library : Rattle.power.specs.Functions.CallsLibrary Rattle.power.proofs.rounded.root_down.Code.function
-calls-library = tt
-
 abbrev Inv-loop : tie.InvT-loop
 Inv-loop r x s₀ s = (s ≤ one) × (x < (s + 1) * (s + 1))
 

@@ -12,9 +12,6 @@ use Rattle.profile.proofs.Tested.{profile-tested}
 use Rattle.profile.proofs.Profile.by_number.Statement.{statement}
 use Rattle.profile.proofs.Profile.by_number.Tie as tie
 
-pub calls-library : Rattle.profile.specs.Functions.CallsLibrary Rattle.profile.proofs.Profile.by_number.Code.function
-calls-library = tt
-
 returns : tie.Need-returns
 unfolding profileOf
 returns c =

@@ -12,9 +12,6 @@ use Rattle.profile.proofs.Power.{low-is, high-is, low-le-one, high-le-o
 use Rattle.profile.proofs.curve.both_shares.Statement.{statement}
 use Rattle.profile.proofs.curve.both_shares.Tie as tie
 
-pub calls-library : Rattle.profile.specs.Functions.CallsLibrary Rattle.profile.proofs.curve.both_shares.Code.function
-calls-library = tt
-
 ratio-at-requires : tie.Need-ratio-at-requires
 ratio-at-requires c κs = search needs
 

@@ -12,9 +12,6 @@ use Rattle.profile.proofs.Bounds.{curve-small}
 use Rattle.profile.proofs.curve.curve_up.Statement.{statement}
 use Rattle.profile.proofs.curve.curve_up.Tie as tie
 
-pub calls-library : Rattle.profile.specs.Functions.CallsLibrary Rattle.profile.proofs.curve.curve_up.Code.function
-calls-library = tt
-
 small : (c : tie.Start) → c .args .a * 100 * c .args .s < 2 ^ 61
 small c = curve-small (c .args .a) (c .args .s) (c .pre .0) (c .pre .1)
 

@@ -10,9 +10,6 @@ use Rattle.profile.proofs.Range.{steps-natural, steps-most}
 use Rattle.profile.proofs.curve.distance.Statement.{statement}
 use Rattle.profile.proofs.curve.distance.Tie as tie
 
-pub calls-library : Rattle.profile.specs.Functions.CallsLibrary Rattle.profile.proofs.curve.distance.Code.function
-calls-library = tt
-
 cast-hundredths : tie.Need-cast-hundredths
 cast-hundredths c = simp (toZ-ofZ (c .fits .t)) (sfits-widen tt (c .fits .t))
 

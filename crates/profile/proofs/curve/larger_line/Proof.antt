@@ -11,9 +11,6 @@ use Rattle.profile.proofs.Integer.{larger-yes, larger-no, kept}
 use Rattle.profile.proofs.curve.larger_line.Statement.{statement}
 use Rattle.profile.proofs.curve.larger_line.Tie as tie
 
-pub calls-library : Rattle.profile.specs.Functions.CallsLibrary Rattle.profile.proofs.curve.larger_line.Code.function
-calls-library = tt
-
 line-at-requires : tie.Need-line-at-requires
 line-at-requires c κs = search needs
 

@@ -13,9 +13,6 @@ use Rattle.profile.proofs.Integer.{sfits, size, sum-size, product-size,
 use Rattle.profile.proofs.curve.line_at.Statement.{statement}
 use Rattle.profile.proofs.curve.line_at.Tie as tie
 
-pub calls-library : Rattle.profile.specs.Functions.CallsLibrary Rattle.profile.proofs.curve.line_at.Code.function
-calls-library = tt
-
 module _ {m b t : ℤ} (fm : SFits w32 m) (fb : SFits w32 b) (ft : SFits w16 t) where
   slope-size : natAbs (m *ℤ t) ≤ 2 ^ 46
   slope-size = omega (arith, product-size m t, mul-le-mul (size fm) (size ft))

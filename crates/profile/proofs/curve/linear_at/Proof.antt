@@ -13,9 +13,6 @@ use Rattle.profile.proofs.Integer.{sfits, sum-size, kept}
 use Rattle.profile.proofs.curve.linear_at.Statement.{statement}
 use Rattle.profile.proofs.curve.linear_at.Tie as tie
 
-pub calls-library : Rattle.profile.specs.Functions.CallsLibrary Rattle.profile.proofs.curve.linear_at.Code.function
-calls-library = tt
-
 cast-constant : tie.Need-cast-constant
 cast-constant c = search needs
 

@@ -15,9 +15,6 @@ use Rattle.profile.proofs.Integer.{sfits, size, widened}
 use Rattle.profile.proofs.curve.magnitude.Statement.{statement}
 use Rattle.profile.proofs.curve.magnitude.Tie as tie
 
-pub calls-library : Rattle.profile.specs.Functions.CallsLibrary Rattle.profile.proofs.curve.magnitude.Code.function
-calls-library = tt
-
 negated : (x : ℤ) → ltZ x (pos 0) ≡ true → pos 0 -ℤ x ≡ pos (natAbs x)
 negated (pos a) e = absurd (omega (arith, ltb-true a 0 e))
 negated (negsuc a) e = ap pos (zero-add _)

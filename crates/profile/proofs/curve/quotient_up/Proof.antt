@@ -4,9 +4,6 @@ use Rattle.power.specs.Power.{quotient}
 use Rattle.profile.proofs.curve.quotient_up.Statement.{statement}
 use Rattle.profile.proofs.curve.quotient_up.Tie as tie
 
-pub calls-library : Rattle.profile.specs.Functions.CallsLibrary Rattle.profile.proofs.curve.quotient_up.Code.function
-calls-library = tt
-
 sub-result : tie.Need-sub-result
 sub-result c = search needs
 

@@ -14,9 +14,6 @@ use Rattle.profile.specs.declared.Profile.{Profile}
 use Rattle.profile.proofs.curve.ratio_at.Statement.{statement}
 use Rattle.profile.proofs.curve.ratio_at.Tie as tie
 
-pub calls-library : Rattle.profile.specs.Functions.CallsLibrary Rattle.profile.proofs.curve.ratio_at.Code.function
-calls-library = tt
-
 module _ {p : Profile} {t : ℤ} {b u : ℕ} (e : b ≡ bOf p) (f : u ≡ uOf t) where
   on-cold : b ≤ u → RatioMet p t true b u
   on-cold h =

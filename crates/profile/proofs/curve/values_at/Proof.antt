@@ -17,9 +17,6 @@ use Rattle.profile.proofs.Bounds.{low-share-le, high-share-le, low-fits
 use Rattle.profile.proofs.curve.values_at.Statement.{statement}
 use Rattle.profile.proofs.curve.values_at.Tie as tie
 
-pub calls-library : Rattle.profile.specs.Functions.CallsLibrary Rattle.profile.proofs.curve.values_at.Code.function
-calls-library = tt
-
 profile-at-requires : tie.Need-profile-at-requires
 profile-at-requires c κs = search needs
 

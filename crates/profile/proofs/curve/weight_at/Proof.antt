@@ -20,9 +20,6 @@ use Rattle.profile.proofs.Bounds.{low-share-le, low-natural, low-bounde
 use Rattle.profile.proofs.curve.weight_at.Statement.{statement}
 use Rattle.profile.proofs.curve.weight_at.Tie as tie
 
-pub calls-library : Rattle.profile.specs.Functions.CallsLibrary Rattle.profile.proofs.curve.weight_at.Code.function
-calls-library = tt
-
 profile-at-requires : tie.Need-profile-at-requires
 profile-at-requires c κs = search needs
 

@@ -6,9 +6,6 @@ use Rattle.profile.proofs.Tested.{getD-any}
 use Rattle.profile.proofs.table.profile_at.Statement.{statement}
 use Rattle.profile.proofs.table.profile_at.Tie as tie
 
-pub calls-library : Rattle.profile.specs.Functions.CallsLibrary Rattle.profile.proofs.table.profile_at.Code.function
-calls-library = tt
-
 mul-result : tie.Need-mul-result
 mul-result c = search needs
 

@@ -6,9 +6,6 @@ use Rattle.account.proofs.Clear.{Cleared, cleared-none, cleared-more, cleared-a
 use Rattle.statement.proofs.clear.clear_boundaries.Statement.{statement}
 use Rattle.statement.proofs.clear.clear_boundaries.Tie as tie
 
-pub calls-library : Rattle.statement.specs.Functions.CallsLibrary Rattle.statement.proofs.clear.clear_boundaries.Code.function
-calls-library = tt
-
 abbrev Inv-loop : tie.InvT-loop
 Inv-loop d₀ i₀ d i = Cleared d₀ d i
 

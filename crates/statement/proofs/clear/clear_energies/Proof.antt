@@ -6,9 +6,6 @@ use Rattle.account.proofs.Clear.{Cleared, cleared-none, cleared-more, cleared-a
 use Rattle.statement.proofs.clear.clear_energies.Statement.{statement}
 use Rattle.statement.proofs.clear.clear_energies.Tie as tie
 
-pub calls-library : Rattle.statement.specs.Functions.CallsLibrary Rattle.statement.proofs.clear.clear_energies.Code.function
-calls-library = tt
-
 abbrev Inv-loop : tie.InvT-loop
 Inv-loop wh₀ i₀ wh i = Cleared wh₀ wh i
 

@@ -10,9 +10,6 @@ use Rattle.statement.proofs.CodeFill.{many-here, many-not}
 use Rattle.statement.proofs.readings.count_readings.Statement.{statement}
 use Rattle.statement.proofs.readings.count_readings.Tie as tie
 
-pub calls-library : Rattle.statement.specs.Functions.CallsLibrary Rattle.statement.proofs.readings.count_readings.Code.function
-calls-library = tt
-
 abbrev Inv-loop : tie.InvT-loop
 Inv-loop marks count₀ i₀ count i = (i ≤ length marks) × (count ≤ i) × (count ≡ howMany (readsAt marks) i)
 

@@ -3,9 +3,6 @@ use borrow.Author.Tests.{eq-eqb, ne-eqb}
 use Rattle.statement.proofs.readings.is_reading.Statement.{statement}
 use Rattle.statement.proofs.readings.is_reading.Tie as tie
 
-pub calls-library : Rattle.statement.specs.Functions.CallsLibrary Rattle.statement.proofs.readings.is_reading.Code.function
-calls-library = tt
-
 returns : tie.Need-returns
 returns c = simp (eq-eqb _ _ (c .if1 .taken))
 

@@ -9,9 +9,6 @@ use Rattle.account.specs.Account.{marksReading}
 use Rattle.statement.proofs.readings.next_reading.Statement.{statement}
 use Rattle.statement.proofs.readings.next_reading.Tie as tie
 
-pub calls-library : Rattle.statement.specs.Functions.CallsLibrary Rattle.statement.proofs.readings.next_reading.Code.function
-calls-library = tt
-
 abbrev Inv-loop : tie.InvT-loop
 Inv-loop marks k i₀ i = (k ≤ i) × ((j : ℕ) → j < i → k ≤ j → marksReading (getD marks j 0) ≡ false)
 

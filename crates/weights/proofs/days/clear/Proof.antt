@@ -9,9 +9,6 @@ use Rattle.weights.proofs.Filled.{Filled, start, step, done}
 use Rattle.weights.proofs.days.clear.Statement.{statement}
 use Rattle.weights.proofs.days.clear.Tie as tie
 
-pub calls-library : Rattle.weights.specs.Functions.CallsLibrary Rattle.weights.proofs.days.clear.Code.function
-calls-library = tt
-
 abbrev zero-at : ℕ → ℕ
 zero-at j = 0
 

@@ -16,9 +16,6 @@ use Rattle.weights.proofs.Span.{weights-length, weights-at}
 use Rattle.weights.proofs.days.fill.Statement.{statement}
 use Rattle.weights.proofs.days.fill.Tie as tie
 
-pub calls-library : Rattle.weights.specs.Functions.CallsLibrary Rattle.weights.proofs.days.fill.Code.function
-calls-library = tt
-
 abbrev Inv-loop : tie.InvT-loop
 Inv-loop number weekday means out₀ k₀ out k = Filled (dayWeight number weekday means) (length out₀) out k
 

@@ -15,9 +15,6 @@ use Rattle.weights.proofs.Series.{all-in}
 use Rattle.weights.proofs.days.temperature_of.Statement.{statement}
 use Rattle.weights.proofs.days.temperature_of.Tie as tie
 
-pub calls-library : Rattle.weights.specs.Functions.CallsLibrary Rattle.weights.proofs.days.temperature_of.Code.function
-calls-library = tt
-
 add-of-four : tie.Need-add-of-four
 add-of-four c = search needs
 

@@ -15,9 +15,6 @@ use Rattle.profile.specs.declared.WeightAnswer.{WeightAnswer}
 use Rattle.weights.proofs.days.weight_at.Statement.{statement}
 use Rattle.weights.proofs.days.weight_at.Tie as tie
 
-pub calls-library : Rattle.weights.specs.Functions.CallsLibrary Rattle.weights.proofs.days.weight_at.Code.function
-calls-library = tt
-
 day-weight-requires : tie.Need-day-weight-requires
 day-weight-requires c κs = search needs
 

@@ -7,9 +7,6 @@ use Rattle.weights.proofs.Raised.{up, raised, raised-bits, same, lowere
 use Rattle.weights.proofs.means.above_coldest.Statement.{statement}
 use Rattle.weights.proofs.means.above_coldest.Tie as tie
 
-pub calls-library : Rattle.weights.specs.Functions.CallsLibrary Rattle.weights.proofs.means.above_coldest.Code.function
-calls-library = tt
-
 sub-result : tie.Need-sub-result
 sub-result c = let r = raised _ (c .pre) in rw (raised-bits _ (c .pre)) (record { sfits = omega arith })
 

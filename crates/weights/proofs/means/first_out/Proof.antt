@@ -18,9 +18,6 @@ use Rattle.weights.specs.Means.{firstOut}
 use Rattle.weights.proofs.means.first_out.Statement.{statement}
 use Rattle.weights.proofs.means.first_out.Tie as tie
 
-pub calls-library : Rattle.weights.specs.Functions.CallsLibrary Rattle.weights.proofs.means.first_out.Code.function
-calls-library = tt
-
 abbrev Inv-loop : tie.InvT-loop
 Inv-loop means k₀ k = (k ≤ length means) × (firstOut means ≡ k + firstOut (drop k means))
 

@@ -8,9 +8,6 @@ use Rattle.weights.proofs.Raised.{fits, lowered}
 use Rattle.weights.proofs.means.from_coldest.Statement.{statement}
 use Rattle.weights.proofs.means.from_coldest.Tie as tie
 
-pub calls-library : Rattle.weights.specs.Functions.CallsLibrary Rattle.weights.proofs.means.from_coldest.Code.function
-calls-library = tt
-
 cast-result : tie.Need-cast-result
 cast-result c = search needs
 

@@ -12,9 +12,6 @@ use Rattle.weights.proofs.Raised.{Raised, lowered, of-four, same}
 use Rattle.weights.proofs.means.of_four.Statement.{statement}
 use Rattle.weights.proofs.means.of_four.Tie as tie
 
-pub calls-library : Rattle.weights.specs.Functions.CallsLibrary Rattle.weights.proofs.means.of_four.Code.function
-calls-library = tt
-
 above-coldest-requires : tie.Need-above-coldest-requires
 above-coldest-requires c κs = search needs
 

@@ -12,9 +12,6 @@ use lib.Seq.{length-take-le}
 use Rattle.weights.proofs.means.serves.Statement.{statement}
 use Rattle.weights.proofs.means.serves.Tie as tie
 
-pub calls-library : Rattle.weights.specs.Functions.CallsLibrary Rattle.weights.proofs.means.serves.Code.function
-calls-library = tt
-
 returns : tie.Need-returns
 returns c = rw (lt-leb _ _ (c .if1 .taken))
 

@@ -1,2 +1,0 @@
--- What crate arvadush claims of its code (Case file).
-pub mod Traces

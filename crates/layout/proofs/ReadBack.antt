@@ -1,0 +1,48 @@
+-- Numbers printed and read again (Case file, the program's output): their digits are digits, and have their value. Assumes nothing.
+use Prim.Native.Nat.{ℕ, zero, suc, _+_, _-_, _*_, _/_, _%_, _^_, _<_}
+use mathlib.Core.Path.{_≡_, refl, _∙_}
+use mathlib.Core.Bool.{Bool, true, false, cond, _&&_}
+use mathlib.Core.List.{List, [], _∷_, _++_}
+use native.Mathlib.Omega.{arith}
+use borrow.Author.Tests.{le-leb, ltb-true}
+use lib.Dec.{ltb}
+use Rattle.layout.specs.Text.{digit, digits, decimal, isDigit, allDigits, valueAfter, ReadBack}
+use Rattle.layout.proofs.Decimal.{fewer}
+
+value-joined : (v : ℕ) (xs ys : List ℕ) → valueAfter v (xs ++ ys) ≡ valueAfter (valueAfter v xs) ys
+unfolding valueAfter
+value-joined v [] ys = refl
+value-joined v (x ∷ xs) ys = value-joined (v * 10 + (x - 48)) xs ys
+
+-- a digit after digits
+digit-more : (xs : List ℕ) (d : ℕ) → d < 10 → allDigits xs ≡ true → allDigits (xs ++ (digit d ∷ [])) ≡ true
+unfolding allDigits
+digit-more [] d l all = rw (le-leb 48 (digit d) (omega arith), le-leb (digit d) 57 (omega arith)) refl
+digit-more (x ∷ xs) d l all = by (isDigit x) (digit-more xs d l) all
+  where
+    by : (b : Bool) → (allDigits xs ≡ true → allDigits (xs ++ (digit d ∷ [])) ≡ true) → b && allDigits xs ≡ true →
+        b && allDigits (xs ++ (digit d ∷ [])) ≡ true
+    by true more rest = more rest
+    by false more rest = rest
+
+digits-value : (more n : ℕ) → n < 10 ^ suc more → valueAfter 0 (digits more n) ≡ n
+unfolding valueAfter digits
+digits-value zero n l = omega (arith, l)
+digits-value (suc more) n l = by (ltb n 10) refl (digits more (n / 10)) (digits-value more (n / 10) (fewer more n l))
+  where
+    by : (b : Bool) → ltb n 10 ≡ b → (before : List ℕ) → valueAfter 0 before ≡ n / 10 → valueAfter 0 (cond b [] before ++ (digit (n % 10) ∷ [])) ≡ n
+    by true e before is = omega (arith, ltb-true n 10 e)
+    by false e before is = value-joined 0 before (digit (n % 10) ∷ []) ∙ omega (arith, is)
+
+digits-alone : (more n : ℕ) → allDigits (digits more n) ≡ true
+unfolding allDigits digits
+digits-alone zero n = digit-more [] (n % 10) (omega arith) refl
+digits-alone (suc more) n = by (ltb n 10) (digits more (n / 10)) (digits-alone more (n / 10))
+  where
+    by : (b : Bool) (before : List ℕ) → allDigits before ≡ true → allDigits (cond b [] before ++ (digit (n % 10) ∷ [])) ≡ true
+    by true before all = digit-more [] (n % 10) (omega arith) refl
+    by false before all = digit-more before (n % 10) (omega arith) all
+
+pub read-back : ReadBack
+unfolding decimal
+read-back n l = (digits-alone 19 n, digits-value 19 n (omega (arith, l)))
