@@ -16,27 +16,45 @@ A number has to fit its field, and nothing else is checked: whether the file is 
 import struct
 import sys
 
+MOST = 1 << 24  # bytes of an input: five times the longest text without comments
+
 
 class Bad(Exception):
     """Input that cannot be converted; the message says where and why."""
+
+
+def quoted(word):
+    """A word as a message shows it: on one line, and not all of a long one."""
+    return ascii(word if len(word) <= 30 else word[:27] + "...")
 
 
 def whole(word, least, most, where):
     """The whole number that a word spells, if it lies from least to most."""
     digits = word[1:] if word.startswith("-") else word
     if not (digits.isascii() and digits.isdigit()):
-        raise Bad(f"{where}: '{word}' is no whole number")
-    value = int(word)
+        raise Bad(f"{where}: {quoted(word)} is no whole number")
+    # No field holds 21 digits, and int refuses some thousands of them.
+    digits = digits.lstrip("0")[:21] or "0"
+    value = -int(digits) if word.startswith("-") else int(digits)
     if not least <= value <= most:
-        raise Bad(f"{where}: {value} is outside {least} to {most}")
+        raise Bad(f"{where}: {quoted(word)} is outside {least} to {most}")
     return value
+
+
+def decoded(data):
+    """The text of these bytes: UTF-8, with or without a byte order mark, its lines ended in any of the usual ways."""
+    data = data.replace(b"\r\n", b"\n").replace(b"\r", b"\n")
+    try:
+        return data.decode("utf-8-sig")
+    except UnicodeDecodeError as error:
+        raise Bad(f"line {error.object[:error.start].count(10) + 1}: no text in UTF-8") from error
 
 
 def parse(text):
     """The fields that a text names: (profile, weekday, means, readings, cuts)."""
     single = {"profile": None, "weekday": None}
     means, readings, cuts = [], [], []
-    for number, line in enumerate(text.splitlines(), 1):
+    for number, line in enumerate(text.split("\n"), 1):
         words = line.split("#", 1)[0].split()
         if not words:
             continue
@@ -58,7 +76,7 @@ def parse(text):
                 raise Bad(f"{where}: 'cut' takes a boundary")
             cuts.append(whole(rest[0], 0, 65535, where))
         else:
-            raise Bad(f"{where}: unknown entry '{name}' (profile, weekday, means, reading or cut)")
+            raise Bad(f"{where}: unknown entry {quoted(name)} (profile, weekday, means, reading or cut)")
     for name, value in single.items():
         if value is None:
             raise Bad(f"no '{name}' line")
@@ -119,18 +137,18 @@ def main(arguments):
         return 2
     command, name = arguments
     try:
-        if command == "make":
-            with open(name, encoding="utf-8") as file:
-                sys.stdout.buffer.write(make(file.read()))
-        else:
-            with open(name, "rb") as file:
-                sys.stdout.write(show(file.read()))
-    except UnicodeDecodeError:
-        print(f"{name}: no text in UTF-8", file=sys.stderr)
-        return 1
+        with open(name, "rb") as file:
+            data = file.read(MOST + 1)
+        if len(data) > MOST:
+            raise Bad(f"more than {MOST} bytes")
+        result = make(decoded(data)) if command == "make" else show(data).encode()
     except (OSError, Bad) as error:
-        print(f"{name}: {error}" if isinstance(error, Bad) else error, file=sys.stderr)
-        return 1
+        return f"{name}: {error.strerror if isinstance(error, OSError) else error}"
+    try:
+        with open(1, "wb", closefd=False) as out:
+            out.write(result)
+    except OSError as error:
+        return f"standard output: {error.strerror}"
     return 0
 
 
