@@ -1,9 +1,30 @@
-//! The console, no part of the paper, over section "Account and its calls": a script of calls in, their answers out.
+//! The console (examples/c/console.c), no part of the paper, over section "Account and its calls": a script of calls in,
+//! their answers out.
 
 use model::statement::{refusal_text, text};
 use model::{account, statement, value, Answer, Boundary, Mean, ProfileNumber, Weekday, DONE};
 
-pub const MOST_BYTES: usize = 65_536;
+const HELP: &str = "\
+weights W W ..               opens an account with these weights, one for each day
+days PROFILE WEEKDAY M M ..  opens an account with the weights that these daily means give
+reading K COUNT              sets a reading of COUNT Wh at boundary K
+withdraw K                   removes the reading at boundary K
+cut K                        sets a cut at boundary K
+uncut K                      removes the cut at boundary K
+statement                    prints the statement of the account
+help                         prints this text
+Profiles are 0 to 9, and weekdays are 0 (Monday) to 6.
+Means are hundredths of a degree C, oldest first. The first three are of the days before day 0.
+The answer is done, refused NUMBER PLACE or the statement. A line that is no call gets unknown LINE.
+Empty lines and lines that begin with # get no answer.
+";
+
+/// What the console prints, and its exit status: 1 where some line is no call, else 0.
+#[derive(Debug, PartialEq, Eq)]
+pub struct Run {
+    pub text: String,
+    pub status: i32,
+}
 
 enum Line {
     Weights(Vec<u32>),
@@ -13,6 +34,7 @@ enum Line {
     Cut(Boundary),
     Uncut(Boundary),
     Statement,
+    Help,
 }
 
 /// A decimal number that the type T holds: digits only, zeros in front allowed.
@@ -35,8 +57,8 @@ fn mean(word: &str) -> Option<Mean> {
     }
 }
 
-fn parse(line: &str) -> Option<Line> {
-    let words: Vec<&str> = line.split(' ').collect();
+fn parse(words: &[&[u8]]) -> Option<Line> {
+    let words: Vec<&str> = words.iter().map(|word| std::str::from_utf8(word).ok()).collect::<Option<_>>()?;
     Some(match words[..] {
         ["weights", ref rest @ ..] => Line::Weights(rest.iter().map(|word| number(word)).collect::<Option<_>>()?),
         ["days", profile, weekday, ref rest @ ..] => {
@@ -47,6 +69,7 @@ fn parse(line: &str) -> Option<Line> {
         ["cut", k] => Line::Cut(number(k)?),
         ["uncut", k] => Line::Uncut(number(k)?),
         ["statement"] => Line::Statement,
+        ["help"] => Line::Help,
         _ => return None,
     })
 }
@@ -84,6 +107,7 @@ impl Account {
     fn run(&mut self, line: Line) -> String {
         let answer = match line {
             Line::Statement => return self.statement(),
+            Line::Help => return HELP.to_string(),
             Line::Weights(weights) => self.open(weights),
             Line::Days(profile, weekday, means) => {
                 let mut weights = vec![0; means.len().saturating_sub(3)];
@@ -105,29 +129,28 @@ impl Account {
     }
 }
 
-/// What is run of an input: all of it, or, if it is longer than a script may be, the lines that end within the limit.
-fn script(input: &[u8]) -> &[u8] {
-    if input.len() <= MOST_BYTES {
-        return input;
-    }
-    match input[..MOST_BYTES].iter().rposition(|byte| *byte == b'\n') {
-        Some(last) => &input[..=last],
-        None => &[],
-    }
+/// The words of a line: blanks and tabs stand around them, and the carriage return of CRLF belongs to the line's end.
+fn words(line: &[u8]) -> Vec<&[u8]> {
+    let line = line.strip_suffix(b"\r").unwrap_or(line);
+    line.split(|byte| matches!(byte, b' ' | b'\t')).filter(|word| !word.is_empty()).collect()
 }
 
-/// What the console prints for what stands on its standard input.
-pub fn console(input: &[u8]) -> String {
+/// The console on what stands on its standard input.
+pub fn console(input: &[u8]) -> Run {
     let mut account = Account::default();
-    let mut out = String::new();
-    for (i, line) in script(input).split(|byte| *byte == b'\n').enumerate() {
-        if line.is_empty() || line[0] == b'#' {
+    let mut run = Run { text: String::new(), status: 0 };
+    for (i, line) in input.split(|byte| *byte == b'\n').enumerate() {
+        let words = words(line);
+        if words.is_empty() || words[0].starts_with(b"#") {
             continue;
         }
-        match std::str::from_utf8(line).ok().and_then(parse) {
-            Some(line) => out += &account.run(line),
-            None => out += &format!("unknown {}\n", i + 1),
+        match parse(&words) {
+            Some(line) => run.text += &account.run(line),
+            None => {
+                run.text += &format!("unknown {}\n", i + 1);
+                run.status = 1;
+            }
         }
     }
-    out
+    run
 }

@@ -1,10 +1,10 @@
 //! The console, no part of the paper, over section "Account and its calls": every call, every refusal that a script can
-//! reach, lines that are no calls, and the limit of a script.
+//! reach, lines that are no calls, what may stand around words and lines, and long scripts.
 
 use additions::console::console;
 
 fn run(script: &str) -> Vec<String> {
-    console(script.as_bytes()).lines().map(str::to_string).collect()
+    console(script.as_bytes()).text.lines().map(str::to_string).collect()
 }
 
 #[test]
@@ -101,13 +101,10 @@ fn too_many_days() {
 #[test]
 fn lines_that_are_no_calls() {
     for line in [
-        " statement",
-        "statement ",
         "Statement",
         "statement 1",
         "cut",
         "cut ",
-        "cut  1",
         "cut 1 2",
         "cut -1",
         "cut +1",
@@ -115,8 +112,6 @@ fn lines_that_are_no_calls() {
         "reading 1",
         "reading 1 18446744073709551616",
         "cut 18446744073709551616",
-        "weights ",
-        "weights 1  2",
         "weights 4294967296",
         "weights -1",
         "days",
@@ -127,16 +122,81 @@ fn lines_that_are_no_calls() {
         "days 0 0 32768",
         "days 0 0 -32769",
         "days 0 0 -",
+        "days 0 0 - 1",
         "days 0 0 --1",
+        "days -0 0",
+        "help 1",
+        "help #",
+        "statement # now",
         "open",
-        "\t",
-        "cut 1\r",
-        "cut\t1",
+        "cut\r1",
+        "cut 1\r\r",
+        "\r\r",
+        "\rcut 1",
+        "cut 1\r ",
+        "cut 1\x0b",
+        "cut\x0c1",
+        "cut\u{a0}1",
+        "\0",
+        "cut 1\0",
+        "cut\0 1",
+        "statement\0",
+        "\0#",
         "é",
     ] {
-        assert_eq!(run(&format!("\n#\n{line}\n")), ["unknown 3"], "{line:?}");
+        for end in ["", "\n", "\r\n"] {
+            assert_eq!(run(&format!("\n#\n{line}{end}")), ["unknown 3"], "{line:?} {end:?}");
+        }
     }
-    assert_eq!(console(b"\xff\ncut 0\n"), "unknown 1\nrefused 3 0\n");
+    assert_eq!(console(b"\xff\ncut 0\n#\xff\n").text, "unknown 1\nrefused 3 0\n");
+}
+
+#[test]
+fn the_exit_status() {
+    for script in ["", "\n", "#", "cut 0\n", "help", "weights 1\nreading 5 5\n \t\r\n"] {
+        assert_eq!(console(script.as_bytes()).status, 0, "{script:?}");
+    }
+    for script in ["x", "x\ncut 0\n", "cut 0\nx", "weights 1\nreading 5\nstatement\n"] {
+        assert_eq!(console(script.as_bytes()).status, 1, "{script:?}");
+    }
+}
+
+#[test]
+fn blanks_and_tabs_around_words() {
+    let script =
+        "  weights \t 1   1 \nreading 0\t\t0\n\treading 2 7\t\n cut\t1\n\tstatement  \n weights \n days 0 0 \n";
+    let expected = "done,done,done,done,parts 2,0 1 4,1 2 3,sum 7,refused 3 0,refused 3 0";
+    assert_eq!(run(script).join(","), expected);
+}
+
+#[test]
+fn lines_without_an_answer() {
+    for line in ["", " ", "\t", " \t  ", "#", "# cut 1", "#cut 1", "  # cut 1", "\t#", "#\0", " #\r"] {
+        for end in ["", "\n", "\r\n"] {
+            assert_eq!(run(&format!("{line}{end}")), NOTHING, "{line:?} {end:?}");
+        }
+    }
+}
+
+#[test]
+fn the_ends_of_lines() {
+    let lines = ["weights 1", "reading 0 0", "", "# x", "reading 1 12", "statement"];
+    for end in ["\n", "\r\n", " \r\n"] {
+        let script = lines.join(end);
+        assert_eq!(run(&script)[2..], STATEMENT, "{end:?}");
+        assert_eq!(run(&(script + end))[2..], STATEMENT, "{end:?}");
+    }
+    assert_eq!(run("weights 1\r"), ["done"]);
+}
+
+#[test]
+fn help_names_every_call() {
+    let help = run("help");
+    let names = ["weights", "days", "reading", "withdraw", "cut", "uncut", "statement", "help"];
+    for (line, name) in help.iter().zip(names) {
+        assert_eq!(line.split(' ').next(), Some(name));
+    }
+    assert_eq!(run(" help \r\nhelp"), [&help[..], &help[..]].concat());
 }
 
 #[test]
@@ -147,78 +207,30 @@ fn numbers_that_just_fit() {
     assert_eq!(run(script).join(","), expected);
 }
 
-/// The answers to these last lines of a script of that many bytes, after an account of one day and its first reading.
-fn at_the_end(bytes: usize, last: &str) -> Vec<String> {
-    let first = "weights 1\nreading 0 0\n";
-    let between = "#".repeat(bytes - first.len() - 1 - last.len());
-    let script = format!("{first}{between}\n{last}");
-    assert_eq!(script.len(), bytes);
-    let answers = run(&script);
-    assert_eq!(answers[..2], ["done", "done"]);
-    answers[2..].to_vec()
-}
-
 const STATEMENT: [&str; 4] = ["done", "parts 1", "0 1 12", "sum 12"];
 const NOTHING: [&str; 0] = [];
 
 #[test]
-fn within_the_most_bytes_every_line_is_run() {
-    for bytes in [65_535, 65_536] {
-        assert_eq!(at_the_end(bytes, "reading 1 12\nstatement\n"), STATEMENT);
-        assert_eq!(at_the_end(bytes, "reading 1 12\nstatement"), STATEMENT);
-        assert_eq!(at_the_end(bytes, "statemen"), ["unknown 4"]);
+fn long_scripts_and_lines() {
+    let first = "weights 1\nreading 0 0\n";
+    for between in ["#", "\n", " ", "\t", " \n"] {
+        let script = format!("{first}{}\nreading 1 12\nstatement", between.repeat(300_000));
+        assert_eq!(run(&script)[2..], STATEMENT, "{between:?}");
     }
-}
-
-#[test]
-fn a_line_feed_at_the_limit() {
-    // The last byte within the limit is a line feed: its line is run, and nothing of what follows.
-    for rest in ["\n", "x", "#", "statement", "x\nstatement\n"] {
-        let last = format!("reading 1 12\nstatement\n{rest}");
-        assert_eq!(at_the_end(65_536 + rest.len(), &last), STATEMENT, "{rest:?}");
-    }
-    // The first byte past the limit is a line feed: its line does not end within the limit.
-    assert_eq!(at_the_end(65_537, "reading 1 12\nstatement\n"), ["done"]);
-    assert_eq!(at_the_end(65_537, "x\n"), NOTHING);
-}
-
-#[test]
-fn a_line_that_the_limit_cuts() {
-    assert_eq!(at_the_end(65_538, "reading 1 1234"), NOTHING);
-    assert_eq!(at_the_end(65_539, "reading 1 1234\n"), NOTHING);
-    assert_eq!(at_the_end(65_549, "reading 1 1234\nstatement\n"), NOTHING);
-    assert_eq!(at_the_end(65_537, "statement1"), NOTHING);
-    assert_eq!(at_the_end(65_537, "reading 1 12\nunknown"), ["done"]);
-    let script = "statement\n".repeat(20_000);
-    assert_eq!(run(&script), vec!["refused 3 0"; 6_553]);
-}
-
-#[test]
-fn no_line_feed_within_the_limit() {
-    let weights = |bytes: usize| format!("weights {}1", "0".repeat(bytes - 9));
-    assert_eq!(run(&weights(65_536)), ["done"]);
-    for bytes in [65_537, 65_538, 200_000] {
-        assert_eq!(run(&weights(bytes)), NOTHING);
-    }
-    assert_eq!(run(&(weights(65_536) + "\n")), NOTHING);
-    assert_eq!(run(&(weights(65_535) + "\n")), ["done"]);
-    assert_eq!(run(&(weights(65_536) + "\nstatement\n")), NOTHING);
+    assert_eq!(run(&("\n".repeat(300_000) + "x")), ["unknown 300001"]);
+    assert_eq!(run(&format!("weights {}1", "0".repeat(300_000))), ["done"]);
+    assert_eq!(run(&format!("weights 1{}", "0".repeat(300_000))), ["unknown 1"]);
+    assert_eq!(run(&"statement\n".repeat(20_000)), vec!["refused 3 0"; 20_000]);
     assert_eq!(run(""), NOTHING);
-}
-
-#[test]
-fn empty_lines_up_to_the_limit() {
-    assert_eq!(run(&("\n".repeat(65_535) + "x")), ["unknown 65536"]);
-    assert_eq!(run(&("\n".repeat(65_536) + "x")), NOTHING);
 }
 
 /// The whole line is judged first.
 #[test]
 fn a_bad_word_past_the_longest_span() {
     let line = |head: &str, words: usize, last: &str| format!("{head}{} {last}\n", " 1".repeat(words));
-    for (head, words) in [("weights", 1_096), ("weights", 1_200), ("days 0 0", 1_099), ("days 0 0", 1_200)] {
-        assert_eq!(console(line(head, words, "1").as_bytes()), "refused 3 0\n");
-        assert_eq!(console(line(head, words, "x").as_bytes()), "unknown 1\n");
-        assert_eq!(console(line(head, words, "1 x").as_bytes()), "unknown 1\n");
+    for (head, words) in [("weights", 1_096), ("weights", 99_999), ("days 0 0", 1_099), ("days 0 0", 99_999)] {
+        assert_eq!(console(line(head, words, "1").as_bytes()).text, "refused 3 0\n");
+        assert_eq!(console(line(head, words, "x").as_bytes()).text, "unknown 1\n");
+        assert_eq!(console(line(head, words, "1 x").as_bytes()).text, "unknown 1\n");
     }
 }

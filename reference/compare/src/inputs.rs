@@ -2,7 +2,6 @@
 
 use crate::checks::{Account, File, Input, Outputs};
 use crate::random::Random;
-use additions::console::MOST_BYTES;
 use model::history::Call;
 use model::{Boundary, Mean, ProfileNumber, Weekday};
 
@@ -418,74 +417,149 @@ fn span(random: &mut Random) -> Input {
     Input::Weights { profile: profile(random), weekday: weekday(random), means: means(random, count, 5), out }
 }
 
-/// The lines of a script for the console.
-pub fn script(random: &mut Random) -> Vec<u8> {
+/// Lines of a script that are no calls.
+const UNKNOWN: [&str; 26] = [
+    "cut",
+    "cut 1 2",
+    "cut x",
+    "cut\r1",
+    "cut 1\r\r",
+    "cut\0 1",
+    "cut 1\0",
+    "\0cut 1",
+    "cut 1\x0b",
+    "reading 1",
+    "reading 0 18446744073709551616",
+    "weights 4294967296",
+    "weights 1 x",
+    "weights 1 -1",
+    "days",
+    "days 0",
+    "days 256 0 1 2 3 4",
+    "days 0 0 1 2 3 32768",
+    "Cut 1",
+    "uncut -1",
+    "withdraw 99999999999999999999",
+    "statement 1",
+    "help 1",
+    "open",
+    "é",
+    "\u{feff}cut 1",
+];
+
+/// Lines that have an answer, or none, whatever stands.
+const OTHERS: [&str; 12] = [
+    "",
+    " ",
+    "\t",
+    " \t ",
+    "\r",
+    "# cut 1",
+    " \t# cut 1",
+    "#\0",
+    "help",
+    "weights",
+    "days 0 0 1 2",
+    "days 0 0 -0 007 -32768 32767",
+];
+
+/// A line that opens an account of n days, or is refused.
+fn opening(random: &mut Random, n: usize) -> String {
+    let mut line;
+    if random.once_in(2) {
+        line = "weights".to_string();
+        for _ in 0..if random.once_in(10) { 0 } else { n } {
+            line += &format!(" {}", any_weight(random));
+        }
+    } else {
+        line = format!("days {} {}", profile(random), weekday(random));
+        let count = length(random, n + 3);
+        for mean in means(random, count, 6) {
+            line += &format!(" {mean}");
+        }
+    }
+    if random.once_in(100) {
+        line += random.pick(&[" x", " 99999"]);
+    }
+    line
+}
+
+fn call_line(call: &Call) -> String {
+    match call {
+        Call::Reading(k, count) => format!("reading {k} {count}"),
+        Call::Withdraw(k) => format!("withdraw {k}"),
+        Call::Cut(k) => format!("cut {k}"),
+        Call::Uncut(k) => format!("uncut {k}"),
+        Call::Statement(_) => "statement".to_string(),
+    }
+}
+
+/// Blanks and tabs around the words of a line, and zeros before its numbers.
+fn spread(random: &mut Random, line: &str) -> String {
     let mut text = String::new();
+    for word in line.split(' ') {
+        text += random.pick(&["", " ", "\t", "  "]);
+        if random.once_in(20) && word.starts_with(|c: char| c.is_ascii_digit()) {
+            let most = if random.once_in(20) { 70_000 } else { 30 };
+            text += &"0".repeat(random.length(1, most));
+        }
+        text += word;
+        text += random.pick(&[" ", " ", "  ", "\t", "\t\t", " \t ", "     "]);
+    }
+    text
+}
+
+/// The lines of a script: openings and calls, with lines of other kinds between them.
+fn script_lines(random: &mut Random) -> Vec<String> {
+    let unknown = random.once_in(2);
+    let mut lines = Vec::new();
     for _ in 0..random.length(1, 3) {
         let n = if random.once_in(200) { random.length(1_090, 1_100) } else { random.length(1, 9) };
-        if random.once_in(2) {
-            let n = if random.once_in(10) { 0 } else { n };
-            let words: Vec<String> = (0..n).map(|_| any_weight(random).to_string()).collect();
-            text += &["weights".to_string()].into_iter().chain(words).collect::<Vec<_>>().join(" ");
-        } else {
-            text += &format!("days {} {}", profile(random), weekday(random));
-            let count = length(random, n + 3);
-            for mean in means(random, count, 6) {
-                text += &format!(" {mean}");
-            }
-        }
-        text += "\n";
+        lines.push(opening(random, n));
         for call in calls(random, n) {
-            text += &match call {
-                Call::Reading(k, count) => format!("reading {k} {count}\n"),
-                Call::Withdraw(k) => format!("withdraw {k}\n"),
-                Call::Cut(k) => format!("cut {k}\n"),
-                Call::Uncut(k) => format!("uncut {k}\n"),
-                Call::Statement(_) => "statement\n".to_string(),
-            };
-            if random.once_in(20) {
-                let odd = [
-                    "",
-                    "# cut 1",
-                    " cut 1",
-                    "cut  1",
-                    "cut 1 ",
-                    "cut",
-                    "cut 1 2",
-                    "cut x",
-                    "reading 1",
-                    "statement 1",
-                    "reading 0 18446744073709551616",
-                    "weights 4294967296",
-                    "weights 1 x",
-                    "days",
-                    "days 0",
-                    "Cut 1",
-                    "days 0 0 1 2",
-                    "uncut -1",
-                    "withdraw 99999999999999999999",
-                    "\t",
-                    "open",
-                    "cut 1\r",
-                ];
-                text += random.pick(&odd);
-                text += "\n";
+            lines.push(call_line(&call));
+            match random.below(30) {
+                0 if unknown => lines.push(random.pick(&UNKNOWN).to_string()),
+                1 => lines.push(random.pick(&OTHERS).to_string()),
+                _ => {}
             }
         }
+    }
+    lines
+}
+
+/// The start of a script, of any length, and mostly with more words than the longest span has days.
+fn long_lines(random: &mut Random) -> String {
+    let length = random.length(1, 99_999);
+    let list = random.pick(&["weights", "days 0 0", "weights x"]).to_string() + &" 1".repeat(length);
+    match random.below(4) {
+        0 => random.pick(&["\n", "#", " ", "\t", "x", "\r\n"]).repeat(length),
+        1 => list + " x\n",
+        2 => list + " -1\n",
+        _ => list + "\n",
+    }
+}
+
+/// A script for the console: all, some or none of its lines spread out, and all, some or none ended by CRLF.
+pub fn script(random: &mut Random) -> Vec<u8> {
+    let (spreads, returns) = (random.pick(&[1, 4, u64::MAX]), random.pick(&[1, 4, u64::MAX]));
+    let mut text = String::new();
+    for line in script_lines(random) {
+        text += &if random.once_in(spreads) { spread(random, &line) } else { line };
+        text += if random.once_in(returns) { "\r\n" } else { "\n" };
+    }
+    if random.once_in(50) {
+        text.insert_str(0, &long_lines(random));
     }
     let mut bytes = text.into_bytes();
     if random.once_in(6) {
         let at = random.length(0, bytes.len() - 1);
         bytes[at] = random.next() as u8;
     }
-    if random.once_in(10) {
-        bytes.truncate(random.length(0, bytes.len()));
-    }
-    if random.once_in(12) {
-        // Empty lines before it, so that the limit falls within it or at its end.
-        let within = if random.once_in(2) { bytes.len() } else { random.length(0, bytes.len()) };
-        let before = (MOST_BYTES + random.length(0, 2)).saturating_sub(within);
-        bytes.splice(..0, vec![b'\n'; before]);
+    match random.below(8) {
+        0 => bytes.truncate(random.length(0, bytes.len())),
+        1 | 2 => drop(bytes.pop()),
+        _ => {}
     }
     bytes
 }

@@ -86,7 +86,7 @@ fn main() {
     }
     if let Some(program) = console {
         programs::console(&program, runs, seed, print);
-        println!("{runs} scripts given to {program}");
+        println!("the stored script and {runs} others given to {program}");
     }
     println!("{} differences, seed {seed}, {} s", differences.get(), start.elapsed().as_secs());
     if differences.get() > 0 {

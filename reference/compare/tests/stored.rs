@@ -61,5 +61,5 @@ fn the_output_of_the_statement_program() {
 
 #[test]
 fn the_output_of_the_console() {
-    assert_stored("crates/console/stdout", &console(&bytes("crates/console/stdin")));
+    assert_stored("examples/c/console.expected", &console(&bytes("examples/c/console.script")).text);
 }
