@@ -7,17 +7,17 @@ use lib.Dec.{leb, ltb, eqb, lit<}
 use lib.ListN.{length, getD, set, length-set, length-replicate, List·getD-eq-default}
 use borrow.Author.Tests.{le-leb, ltb-false, not-false}
 use native.Mathlib.Omega.{arith}
-use Rattle.account.specs.Below.{everywhere}
+use Rattle.common.specs.Below.{everywhere}
 use Rattle.account.specs.Stands.{Stands, nothing, put, withReading, withoutReading, lastLessFirst}
 use Rattle.account.specs.Account.{Account, account, shown, days, unfit, sound, goodWeights, goodMarks, zeroCounts, energyMost, markOf}
 use Rattle.account.specs.Slices.{Checked}
 use Rattle.account.specs.Refusals.{outOfOrder, tooMuch, openNumber, readingRows, withdrawRows, cutRows, uncutRows}
 use Rattle.account.specs.Calls.{cleared, readingPut, readingRemoved, cutPut, cutRemoved}
-use Rattle.account.proofs.Below.{clash, every-at}
+use Rattle.common.proofs.Below.{clash, every-at, every-is}
 use Rattle.account.proofs.Sound.{fit, Sound, sound-parts}
-use Rattle.account.proofs.Rows.{row-none}
+use Rattle.common.proofs.Rows.{row-none}
 use Rattle.account.proofs.Shows.{set-asked, shows-cut, shows-reading, shows-nothing, zeros}
-use Rattle.account.proofs.Readings.{SoundReadings, every-is, reading-sound, withdraw-sound, nothing-sound}
+use Rattle.account.proofs.Readings.{SoundReadings, reading-sound, withdraw-sound, nothing-sound}
 
 -- the account fits and is sound, has these weights and shows what stands
 pub record Holds (w : List ℕ) (s : Stands) (a : Account) : Type 0 where

@@ -6,7 +6,7 @@ use mathlib.Core.Logic.{⊎-elim}
 use mathlib.Core.Bool.{Bool, true, false, cond, _||_, and-false, or-true, or-false}
 use borrow.Author.Tests.{le-leb, lt-leb}
 use lib.Dec.{leb, eqb, leb·zero}
-use Rattle.account.specs.Below.{somewhere, last}
+use Rattle.common.specs.Below.{somewhere, last}
 use Rattle.account.specs.Stands.{Readings, neverFalling}
 
 -- "zero without a reading", at k

@@ -7,11 +7,21 @@ use mathlib.Core.Bool.{Bool, true, false, cond, _&&_}
 use native.Mathlib.Nat.{eq-or-lt-of-le}
 use native.Mathlib.Omega.{arith}
 use lib.Dec.{leb, ltb, eqb}
-use borrow.Author.Tests.{le-leb, eqb-true, eqb-false, lt-ltb, le-ltb, ltb-true, ltb-false}
-use Rattle.account.specs.Below.{somewhere, last}
+use borrow.Author.Tests.{leb-true, le-leb, eqb-true, eqb-false, lt-ltb, le-ltb, ltb-true, ltb-false}
+use Rattle.common.specs.Below.{somewhere, last}
 use Rattle.account.specs.Stands.{Readings, withReading, neverFalling, lastLessFirst, firstReading, lastReading}
 use Rattle.account.specs.Refusals.{belowEarlier, aboveLater, outOfOrder, EqualCounts}
-use Rattle.account.proofs.Below.{clash, neither, none-at, none-is, first-found, last-found, first-least, last-most, last-less, last-holds, some-at, first-some, rising}
+use Rattle.common.proofs.Below.{clash, neither, none-at, none-is, first-found, last-found, first-least, last-most, last-less, last-holds, some-at, first-some, both, below-suc}
+
+-- a reading has at least what the reading before it has
+pub rising : (r : Readings) (m : ℕ) → neverFalling r m ≡ true → (k : ℕ) → k < m → r .at k ≡ true → somewhere (r .at) k ≡ true →
+    r .count (last (r .at) k) ≤ r .count k
+unfolding neverFalling
+rising r zero h k lt at earlier = absurd (omega arith)
+rising r (suc m) h k lt at earlier =
+    let b = both (neverFalling r m) _ h in
+    below-suc (λ j. r .at j ≡ true → somewhere (r .at) j ≡ true → r .count (last (r .at) j) ≤ r .count j) m (rising r m (b .0))
+    (λ here before. leb-true _ _ (simp (here, before) at (b .1))) k lt at earlier
 
 -- of two readings below m the later has at least what the earlier has
 abbrev pub Rising : Readings → ℕ → Type 0

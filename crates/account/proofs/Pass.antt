@@ -5,11 +5,11 @@ use mathlib.Core.Bool.{true, false, and-false}
 use borrow.Author.Tests.{le-leb, lt-leb, eq-eqb, ne-eqb}
 use lib.Dec.{leb}
 use lib.ListN.{getD}
-use Rattle.account.specs.Below.{everywhere}
+use Rattle.common.specs.Below.{everywhere}
 use Rattle.account.specs.Stands.{neverFalling}
 use Rattle.account.specs.Account.{Account, days, shown, marksReading, goodMarks, zeroCounts}
 use Rattle.account.specs.Slices.{goodBoundaries}
-use Rattle.account.proofs.Below.{every-zero, every-more, every-fails}
+use Rattle.common.proofs.Below.{every-zero, every-more, every-fails}
 use Rattle.account.proofs.Order.{zeroAt, carried, rising, passing, falling, falls}
 
 pub record Passed (a : Account) (k last : ℕ) : Type 0 where

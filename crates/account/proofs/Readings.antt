@@ -1,16 +1,16 @@
 -- What "sound" asks of the readings alone, and that an accepted reading and a withdraw keep it (Account and its calls, "Sound").
 -- Assumes nothing.
-use Prim.Native.Nat.{ℕ, zero, suc, _≤_, _<_}
+use Prim.Native.Nat.{ℕ, suc, _≤_, _<_}
 use mathlib.Core.Path.{_≡_, refl}
 use mathlib.Core.Bool.{Bool, true, false, cond, _||_}
 use native.Mathlib.Omega.{arith}
 use lib.Dec.{eqb}
 use borrow.Author.Tests.{eqb-true, ltb-false}
-use Rattle.account.specs.Below.{everywhere}
+use Rattle.common.specs.Below.{everywhere}
 use Rattle.account.specs.Stands.{Readings, nothing, put, withReading, withoutReading, neverFalling, lastLessFirst}
 use Rattle.account.specs.Account.{energyMost}
 use Rattle.account.specs.Refusals.{outOfOrder, tooMuch}
-use Rattle.account.proofs.Below.{clash, every-at}
+use Rattle.common.proofs.Below.{clash, every-at, every-is}
 use Rattle.account.proofs.Order.{zeroAt}
 use Rattle.account.proofs.Pairs.{pairs, neighbours, Within, fewer-rise, fewer-less, more-rise}
 
@@ -18,12 +18,6 @@ pub record SoundReadings (n : ℕ) (r : Readings) : Type 0 where
   pub zeros : everywhere (zeroAt r) (suc n) ≡ true
   pub order : neverFalling r (suc n) ≡ true
   pub energy : lastLessFirst n r ≤ energyMost
-
--- what holds at each boundary below m holds at every one
-pub every-is : (p : ℕ → Bool) (m : ℕ) → ((k : ℕ) → k < m → p k ≡ true) → everywhere p m ≡ true
-unfolding everywhere
-every-is p zero all = refl
-every-is p (suc m) all = rw (every-is p m (λ k h. all k (omega arith)), all m (omega arith))
 
 module _ (n : ℕ) (r : Readings) where
   zero-count : everywhere (zeroAt r) (suc n) ≡ true → (k : ℕ) → k < suc n → r .at k ≡ false → r .count k ≡ 0

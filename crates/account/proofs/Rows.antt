@@ -5,19 +5,14 @@ use mathlib.Core.Path.{_≡_, refl, sym, ap, ap₂, _∙_}
 use mathlib.Core.Bool.{Bool, true, false, not}
 use borrow.Author.Tests.{le-leb, lt-leb, le-ltb, ltb-false, not-false}
 use lib.Dec.{ltb, lit<}
-use lib.ListN.{length}
+use Rattle.account.specs.Stands.{lastLessFirst}
 use Rattle.account.specs.Account as accounts
 use Rattle.account.specs.Account.{Account, days, shown, unfit, sound, goodWeights, energyMost}
-use Rattle.profile.specs.Rows.{row}
+use Rattle.common.specs.Rows.{row}
 use Rattle.account.specs.Refusals.{accountRows}
-use Rattle.account.specs.Slices.{Fit, Checked, readsAt, countAt, spread, goodBoundaries, boundaryRows, nextRow}
+use Rattle.account.specs.Slices.{Fit, Checked, goodBoundaries, boundaryRows, nextRow}
+use Rattle.common.proofs.Rows.{row-none}
 use Rattle.account.proofs.Sound.{fit}
-use Rattle.account.proofs.Spread.{spread-is}
-
--- a row that says nothing: its condition does not hold, and the rows after it say nothing
-pub row-none : (b : Bool) (n rest : ℕ) → 0 < n → row b n rest ≡ 0 → (b ≡ false) × (rest ≡ 0)
-row-none true n rest l e = absurd (omega arith)
-row-none false n rest l e = (refl, e)
 
 pub unfit-rows : (a : Account) (rest : ℕ) → unfit a ≡ true → accountRows a rest ≡ 3
 unfit-rows a rest e = ap (λ (b : Bool). row b 3 (row (not (sound a)) 5 rest)) e
@@ -37,12 +32,12 @@ weights-unsound a w = rw w
 pub boundaries-unsound : (a : Account) → goodWeights (a .weights) ≡ true → goodBoundaries a ≡ false → sound a ≡ false
 boundaries-unsound a w b = rw (w, b)
 
-module _ (a : Account) (f : Fit a) (x : ℕ) (is : x ≡ spread (readsAt (a .marks)) (countAt (a .counts)) (length (a .marks))) where
+module _ (a : Account) (x : ℕ) (is : x ≡ lastLessFirst (days a) (shown a .readings)) where
   pub energy-unsound : goodWeights (a .weights) ≡ true → goodBoundaries a ≡ true → energyMost < x → sound a ≡ false
-  energy-unsound w b l = rw (w, b, ← (is ∙ spread-is a f (shown a .readings)), lt-leb x energyMost l)
+  energy-unsound w b l = rw (w, b, ← is, lt-leb x energyMost l)
 
   pub all-sound : goodWeights (a .weights) ≡ true → goodBoundaries a ≡ true → x ≤ energyMost → sound a ≡ true
-  all-sound w b l = rw (w, b, ← (is ∙ spread-is a f (shown a .readings)), le-leb x energyMost l)
+  all-sound w b l = rw (w, b, ← is, le-leb x energyMost l)
 
 -- what rows 3 and 5 answer does not depend on the rows after them
 pub rows-refuse : (a : Account) (n rest : ℕ) → n ≡ accountRows a 0 → (n ≡ 0 → ⊥) → n ≡ accountRows a rest

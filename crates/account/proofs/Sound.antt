@@ -10,7 +10,7 @@ use Rattle.profile.specs.Limits.{weightLeast, weightMost, spanMost, badSpan}
 use Rattle.account.specs.Stands.{neverFalling, lastLessFirst}
 use Rattle.account.specs.Account.{Account, days, shown, unfit, sound, goodWeights, goodMarks, zeroCounts, energyMost}
 use Rattle.account.specs.Slices.{Fit}
-use Rattle.account.proofs.Below.{both, neither, every-at}
+use Rattle.common.proofs.Below.{both, neither, every-at}
 
 pub fit : (a : Account) → unfit a ≡ false → Fit a
 fit a h =

@@ -7,10 +7,11 @@ use borrow.Author.Tests.{eq-eqb, ne-eqb}
 use lib.ListN.{length, getD}
 use Rattle.profile.specs.Limits.{spanMost}
 use Rattle.account.specs.Account.{Account, marksReading, marksCut, markOf}
-use Rattle.profile.specs.Rows.{row, ifDone}
+use Rattle.common.specs.Rows.{row, ifDone}
 use Rattle.account.specs.Slices.{boundaryRows}
 use Rattle.account.proofs.Sound.{sound-parts, mark-most}
-use Rattle.account.proofs.Rows.{row-none, allowed, boundary-through}
+use Rattle.common.proofs.Rows.{row-none}
+use Rattle.account.proofs.Rows.{allowed, boundary-through}
 
 -- each mark is made of whether it marks a reading and whether it marks a cut
 pub mark-is : (m : ℕ) → m ≤ 3 → m ≡ markOf (marksReading m) (marksCut m)

@@ -5,9 +5,9 @@ use native.Mathlib.Omega.{arith}
 use mathlib.Core.Path.{_≡_, refl, ap₂, _∙_}
 use mathlib.Core.Bool.{Bool, true, _||_}
 use borrow.Author.Tests.{eq-eqb, ne-eqb}
-use Rattle.account.specs.Below.{somewhere, first, last}
+use Rattle.common.specs.Below.{somewhere, first, last}
 use Rattle.account.specs.Stands.{put}
-use Rattle.account.proofs.Below.{first-at, first-below, first-holds, last-at, last-less, last-holds, last-above}
+use Rattle.common.proofs.Below.{first-at, first-below, first-holds, last-at, last-less, last-holds, last-above}
 
 pub put-here {ℓ} : {A : Type ℓ} (f : ℕ → A) (k : ℕ) (x : A) → put f k x k ≡ x
 put-here f k x = rw (eq-eqb k k refl)

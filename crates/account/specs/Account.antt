@@ -6,7 +6,7 @@ use lib.Dec.{leb, eqb}
 use lib.ListN.{length, getD}
 use denote.Ref.{RefT, now}
 use Rattle.profile.specs.Limits.{weightLeast, weightMost, badSpan}
-use Rattle.account.specs.Below.{everywhere}
+use Rattle.common.specs.Below.{everywhere}
 use Rattle.account.specs.Stands.{Stands, neverFalling, lastLessFirst}
 
 -- weights (n), marks and counts (n+1): a boundary is the start of a gas day, n the end of the last one, a reading's count the meter's register in Wh, a cut a date at which

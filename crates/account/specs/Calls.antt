@@ -4,7 +4,7 @@ use mathlib.Core.Path.{_≡_}
 use mathlib.Core.Bool.{Bool, true, false}
 use mathlib.Core.List.{List}
 use lib.ListN.{set}
-use Rattle.profile.specs.Rows.{ifDone, zeros}
+use Rattle.common.specs.Rows.{ifDone, zeros}
 use Rattle.account.specs.declared.Answer.{Answer}
 use Rattle.account.specs.declared.Answer.the-variants.{Done, Unfit, Unsound, NoBoundary, AlreadyThere, OutOfOrder, TooMuch, NotThere}
 use Rattle.account.specs.Account.{Account, account, shown, markOf, goodWeights}

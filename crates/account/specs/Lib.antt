@@ -1,5 +1,4 @@
 -- What the contracts and claims of crate account cite (Account and its calls, If a call declines).
-pub mod Below
 pub mod Stands
 pub mod Account
 pub mod Refusals

@@ -4,8 +4,8 @@ use Prim.Native.Nat.{ℕ, suc, _≤_, _<_}
 use mathlib.Core.Path.{_≡_}
 use mathlib.Core.Bool.{Bool, true, false, not, _&&_, _||_}
 use lib.Dec.{ltb}
-use Rattle.profile.specs.Rows.{row}
-use Rattle.account.specs.Below.{somewhere}
+use Rattle.common.specs.Rows.{row}
+use Rattle.common.specs.Below.{somewhere}
 use Rattle.account.specs.Stands.{Stands, Readings, withReading, lastLessFirst}
 use Rattle.account.specs.Account.{Account, days, shown, unfit, sound, goodWeights, energyMost}
 
@@ -57,7 +57,7 @@ uncutRows n s k =
     (row (not (s .cut k)) 10  -- no such mark to remove
     0)
 
--- 3 and 5 come before the others, and are the same for every call but open
+-- 3 and 5 come before the others; open asks 5 of the weights alone
 abbrev pub accountRows : Account → ℕ → ℕ
 accountRows a rest =
     row (unfit a) 3  -- n outside 1 to 1,096, or a lent length unfit

@@ -1,16 +1,15 @@
 -- Short names for the contracts of private functions and for proofs, here and above; some take single slices (Account and its calls).
-use Prim.Native.Nat.{ℕ, suc, _+_, _-_, _≤_}
+use Prim.Native.Nat.{ℕ, suc, _+_, _≤_}
 use mathlib.Core.Path.{_≡_}
 use mathlib.Core.Bool.{Bool, true, false, _&&_}
 use mathlib.Core.List.{List}
 use lib.Dec.{ltb}
 use lib.ListN.{length, getD}
-use Rattle.profile.specs.Limits.{spanMost}
-use Rattle.account.specs.Below.{first, last}
-use Rattle.account.specs.Stands.{neverFalling}
+use Rattle.profile.specs.Limits.{spanLeast, spanMost}
+use Rattle.account.specs.Stands.{Readings, neverFalling}
 use Rattle.account.specs.Account.{Account, days, shown, unfit, marksReading, goodMarks, zeroCounts}
 use Rattle.account.specs.Account as accounts
-use Rattle.profile.specs.Rows.{row, ifDone}
+use Rattle.common.specs.Rows.{row, ifDone}
 use Rattle.account.specs.Refusals.{accountRows}
 
 -- whether these marks show a reading at k
@@ -21,13 +20,13 @@ readsAt marks k = marksReading (getD marks k 0)
 abbrev pub countAt : List ℕ → ℕ → ℕ
 countAt counts k = getD counts k 0
 
--- last less first, over the boundaries below m
-abbrev pub spread : (ℕ → Bool) → (ℕ → ℕ) → ℕ → ℕ
-spread at count m = count (last at m) - count (first at m)
+-- the readings that these marks and counts show
+abbrev pub readingsIn : List ℕ → List ℕ → Readings
+readingsIn marks counts = record { at = readsAt marks; count = countAt counts }
 
 -- the lengths of an account that fits
 pub record Fit (a : Account) : Type 0 where
-  pub least : 1 ≤ days a
+  pub least : spanLeast ≤ days a
   pub most : days a ≤ spanMost
   pub marks : length (a .marks) ≡ days a + 1
   pub counts : length (a .counts) ≡ days a + 1

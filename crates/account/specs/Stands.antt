@@ -1,10 +1,10 @@
 -- What stands (Account and its calls): the readings with their counts, and the cuts, as functions of the boundary.
--- The table and the statement's rule are written over this alone. After a list of calls, and in a sound account, the count is 0
--- where no reading stands.
+-- The rows from 6 on are written over this and n, the statement's rule over this and the weights: neither over marks and counts. After a
+-- list of calls, and in a sound account, the count is 0 where no reading stands.
 use Prim.Native.Nat.{ℕ, zero, suc, _-_}
 use mathlib.Core.Bool.{Bool, true, false, cond, _&&_}
 use lib.Dec.{leb, eqb}
-use Rattle.account.specs.Below.{somewhere, first, last}
+use Rattle.common.specs.Below.{somewhere, first, last}
 
 pub record Readings : Type 0 where
   pub at : ℕ → Bool

@@ -4,8 +4,8 @@ mod marks;
 mod soundness;
 mod table;
 
-use marks::clear_counts;
-use marks::clear_marks;
+use common::clear_u8;
+use common::clear_u64;
 use marks::last_less_first;
 use profile::Profile;
 use soundness::good_boundaries;
@@ -15,7 +15,7 @@ use table::reading_answer;
 use table::uncut_answer;
 use table::withdraw_answer;
 ghost use mathlib.Core.Path.{_≡_};
-ghost use Rattle.account.specs.Account.{accountIn, energyMost};
+ghost use Rattle.account.specs.Account.{accountIn, marksReading, energyMost};
 ghost use Rattle.account.specs.Calls.{number, OpenMet, ReadingMet, WithdrawMet, CutMet, UncutMet, CheckMet, GoodWeightsMet};
 
 // What a call answers: done, or a row of the table.
@@ -43,8 +43,8 @@ pub fn open(weights: &[u32], marks: &mut [u8], counts: &mut [u64]) -> Answer
     if !good_weights(weights) {
         return Answer::Unsound;
     }
-    clear_marks(marks);
-    clear_counts(counts);
+    clear_u8(marks);
+    clear_u64(counts);
     Answer::Done
 }
 
@@ -98,7 +98,7 @@ pub fn uncut(weights: &[u32], marks: &mut [u8], counts: &[u64], k: usize) -> Ans
     answer
 }
 
-// The rows that every call but open checks first: 3, 5, or 0 for neither.
+// Rows 3 and 5 for a whole account: 3, 5, or 0 for neither. Reading, withdraw, cut, uncut and the statement check them first.
 pub fn check(weights: &[u32], marks: &[u8], counts: &[u64]) -> u8
     ensures { λ r. ⌜ CheckMet (accountIn (weights .entry) (marks .entry) (counts .entry)) r (accountIn (weights .exit) (marks .exit) (counts .exit)) ⌝ }
     ensures { λ r. do ⌜ (← ⟦ENERGY_MOST⟧ .entry) ≡ energyMost ⌝ }
@@ -134,6 +134,16 @@ pub fn good_weights(weights: &[u32]) -> bool
         d += 1;
     }
     true
+}
+
+// Whether a mark is a reading: 2, or 3 with a cut.
+pub fn is_reading(m: u8) -> bool
+    ensures { λ r. ⌜ r ≡ marksReading m ⌝ }
+{
+    if m == 2 {
+        return true;
+    }
+    m == 3
 }
 
 // The paper's number for an answer; 0 is done.

@@ -1,21 +1,12 @@
 // Readings and cuts as the marks and counts show them (Account and its calls). Every function is total.
-ghost use Prim.Native.Nat.{_-_};
+use crate::is_reading;
+ghost use Prim.Native.Nat.{ℕ, suc, _-_};
 ghost use mathlib.Core.Path.{_≡_};
 ghost use lib.ListN.{length, getD};
-ghost use Rattle.profile.specs.Rows.{zeros};
-ghost use Rattle.account.specs.Below as boundaries;
-ghost use Rattle.account.specs.Account.{marksReading, marksCut};
-ghost use Rattle.account.specs.Slices.{readsAt, countAt, spread};
-
-// A reading: 2, or 3 with a cut.
-pub(crate) fn is_reading(m: u8) -> bool
-    ensures { λ r. ⌜ r ≡ marksReading m ⌝ }
-{
-    if m == 2 {
-        return true;
-    }
-    m == 3
-}
+ghost use Rattle.common.specs.Below as boundaries;
+ghost use Rattle.account.specs.Stands.{lastLessFirst};
+ghost use Rattle.account.specs.Account.{marksCut};
+ghost use Rattle.account.specs.Slices.{readsAt, countAt, readingsIn};
 
 // A cut: 1, or 3 with a reading.
 pub(crate) fn is_cut(m: u8) -> bool
@@ -86,29 +77,9 @@ pub(crate) fn less(x: u64, y: u64) -> u64
 
 // The last reading's count less the first one's.
 pub(crate) fn last_less_first(marks: &[u8], counts: &[u64]) -> u64
-    ensures { λ r. ⌜ r ≡ spread (readsAt (now (marks .entry))) (countAt (now (counts .entry))) (length (now (marks .entry))) ⌝ }
+    ensures { λ r. ⌜ ((n : ℕ) → length (now (marks .entry)) ≡ suc n → r ≡ lastLessFirst n (readingsIn (now (marks .entry)) (now (counts .entry)))) ⌝ }
 {
     let last = count_at(counts, last_reading(marks));
     let first = count_at(counts, first_reading(marks));
     less(last, first)
-}
-
-pub(crate) fn clear_marks(marks: &mut [u8])
-    ensures { λ _. ⌜ now (marks .exit) ≡ zeros (now (marks .entry)) ⌝ }
-{
-    let mut k = 0;
-    while k < marks.len() {
-        marks[k] = 0;
-        k += 1;
-    }
-}
-
-pub(crate) fn clear_counts(counts: &mut [u64])
-    ensures { λ _. ⌜ now (counts .exit) ≡ zeros (now (counts .entry)) ⌝ }
-{
-    let mut k = 0;
-    while k < counts.len() {
-        counts[k] = 0;
-        k += 1;
-    }
 }

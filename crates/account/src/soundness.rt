@@ -1,5 +1,5 @@
 // When an account fits and when its marks and counts are sound (Account and its calls).
-use crate::marks::is_reading;
+use crate::is_reading;
 use profile::Profile;
 ghost use mathlib.Core.Path.{_≡_};
 ghost use Rattle.account.specs.Account.{accountIn, unfitLengths};
@@ -9,10 +9,10 @@ ghost use Rattle.account.specs.Slices.{Fit, goodBoundaries};
 pub(crate) fn unfit(n: usize, marks: usize, counts: usize) -> bool
     ensures { λ r. ⌜ r ≡ unfitLengths n marks counts ⌝ }
 {
-    if n < 1 {
+    if n < Profile::SPAN_LEAST {
         return true;
     }
-    if Profile::SPAN < n {
+    if Profile::SPAN_MOST < n {
         return true;
     }
     if marks != n + 1 {

@@ -2,25 +2,25 @@
 use crate::Answer;
 use crate::ENERGY_MOST;
 use crate::check;
+use crate::is_reading;
 use crate::marks::count_at;
 use crate::marks::first_reading;
 use crate::marks::is_cut;
-use crate::marks::is_reading;
 use crate::marks::last_reading;
 use crate::marks::less;
 use crate::marks::mark_at;
 use crate::number_of;
-ghost use Prim.Native.Nat.{_<_};
+ghost use Prim.Native.Nat.{ℕ, suc, _<_};
 ghost use mathlib.Core.Path.{_≡_};
 ghost use mathlib.Core.Bool.{true, _&&_, _||_};
 ghost use lib.Dec.{ltb};
 ghost use lib.ListN.{length};
-ghost use Rattle.account.specs.Below.{first, last};
-ghost use Rattle.account.specs.Stands.{put};
+ghost use Rattle.common.specs.Below.{first, last};
+ghost use Rattle.account.specs.Stands.{put, withReading, lastLessFirst};
 ghost use Rattle.account.specs.Account.{accountIn, shown, marksReading};
 ghost use Rattle.account.specs.Refusals.{outOfOrder, readingNumber, withdrawNumber, cutNumber, uncutNumber};
 ghost use Rattle.account.specs.Calls.{number};
-ghost use Rattle.account.specs.Slices.{Fit, boundaryRows, nextRow, readsAt, countAt, spread};
+ghost use Rattle.account.specs.Slices.{Fit, boundaryRows, nextRow, readsAt, countAt, readingsIn};
 
 // The rows of every call on a boundary: 3, 5 and 6.
 fn boundary_answer(weights: &[u32], marks: &[u8], counts: &[u64], k: usize) -> Answer
@@ -168,7 +168,7 @@ fn count_with(counts: &[u64], k: usize, v: u64, j: usize) -> u64
 // Last less first, "its own count is taken in among those standing".
 fn last_less_first_with(marks: &[u8], counts: &[u64], k: usize, v: u64) -> u64
     requires { ⌜ k < length (now marks) ⌝ }
-    ensures { λ r. ⌜ r ≡ spread (put (readsAt (now (marks .entry))) k true) (put (countAt (now (counts .entry))) k v) (length (now (marks .entry))) ⌝ }
+    ensures { λ r. ⌜ ((n : ℕ) → length (now (marks .entry)) ≡ suc n → r ≡ lastLessFirst n (withReading (readingsIn (now (marks .entry)) (now (counts .entry))) k v)) ⌝ }
 {
     let last = count_with(counts, k, v, last_reading_with(marks, k));
     let first = count_with(counts, k, v, first_reading_with(marks, k));

@@ -9,7 +9,7 @@ use borrow.Author.Tests.{lt-ltb, le-ltb, eq-eqb}
 use lib.Dec.{ltb, leb, eqb}
 use lib.ListN.{length, getD, replicate, length-replicate, List·getD-eq-default}
 use Rattle.profile.specs.Limits.{inRange, profileCount, badSpan}
-use Rattle.profile.specs.Rows.{row}
+use Rattle.common.specs.Rows.{row}
 use Rattle.weights.specs.Means.{someOut}
 use Rattle.weights.specs.Weights.{Ruling, unfit}
 use Rattle.casefile.specs.Case.{profileByte, weekdayByte, meansLength, meansOf, daysOf, readingsOffset, readingsLength}

@@ -12,7 +12,7 @@ use Rattle.casefile.specs.declared.sections.SectionEnd.{SectionEnd}
 use Rattle.casefile.specs.Bytes.{number16}
 use Rattle.casefile.specs.Case.{daysOf, readingsOffset, readingsLength, readingOffset, cutsOffset, cutsLength, endOf}
 use Rattle.casefile.specs.Faults.{Fault, noFault, _before_, fault, firstFault, readingFault, cutFault, faultOf, headFault, meansFault, readingsFault, cutsFault, spanFault, beforeCutsFault}
-use Rattle.profile.specs.Rows.{filled}
+use Rattle.common.specs.Rows.{filled}
 use Rattle.casefile.specs.Sections.{Reached, Clear, ReadingsAsked, ReadingsFrom, ReadingsMet, CutsAsked, CutsFrom, CutsMet, told, SpanMet, FillMet}
 use Rattle.casefile.proofs.Faults.{before-assoc, met, stops, passes, none-both, none-before, clean, stays, joins}
 use Rattle.casefile.proofs.Kept.{cuts-kept, cuts-counts}

@@ -5,7 +5,7 @@ use mathlib.Core.Bool.{Bool, true, false}
 use native.Mathlib.Omega.{arith}
 use native.Mathlib.Numerals.{add-one}
 use native.Mathlib.Decide.{decLt}
-use Rattle.profile.specs.Rows.{row}
+use Rattle.common.specs.Rows.{row}
 use Rattle.casefile.specs.declared.sections.SectionEnd.{SectionEnd}
 use Rattle.casefile.specs.Faults.{Fault, noFault, refused, _before_, fault, firstFault}
 use Rattle.casefile.specs.Reader.{faultNumber}

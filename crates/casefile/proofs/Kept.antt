@@ -10,7 +10,7 @@ use lib.Seq.{set-append-left, set-out, getD-set-same, getD-set-other}
 use Rattle.account.specs.Account.{Account, marksCut, markOf}
 use Rattle.account.proofs.Shows.{zeros}
 use Rattle.casefile.specs.Case.{daysOf, readingBoundary, readingsLength, emptyCase, withReadings, withCuts}
-use Rattle.profile.specs.Rows.{filled}
+use Rattle.common.specs.Rows.{filled}
 
 -- a store inside a list is the same store in the list filled up with zeros
 pub filled-set : (n k x : ℕ) (xs : List ℕ) → k < length xs → set (filled n xs) k x ≡ filled n (set xs k x)

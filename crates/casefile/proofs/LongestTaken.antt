@@ -9,8 +9,8 @@ use lib.Dec.{ltb}
 use lib.ListN.{length, getD}
 use Rattle.profile.specs.Limits as limits
 use Rattle.account.specs.Account.{energyMost}
-use Rattle.weights.specs.Weights.{listOf}
-use Rattle.weights.proofs.Span.{listOf-length, listOf-at}
+use Rattle.common.specs.Lists.{listOf}
+use Rattle.common.proofs.Lists.{listOf-length, listOf-at}
 use Rattle.casefile.specs.Bytes.{little, number16, signed}
 use Rattle.casefile.specs.Case.{meansLength, meanOffset, daysOf, readingsOffset, readingsLength, readingOffset, readingBoundary, readingCount, cutsOffset, cutsLength, cutOffset, cutBoundary, endOf}
 use Rattle.casefile.specs.Faults.{noFault, failsToRise, meanFault, readingFault, cutFault, headFault, meansFault, readingsFault, cutsFault}

@@ -6,7 +6,7 @@ use native.Mathlib.Numerals.{add-one}
 use lib.IntN.{ℤ}
 use lib.ListN.{length, set, take}
 use lib.Seq.{take-suc-set}
-use Rattle.weights.specs.Weights.{listOf}
+use Rattle.common.specs.Lists.{listOf}
 use Rattle.casefile.specs.Bytes.{signed16}
 use Rattle.casefile.specs.Case.{meanOffset, firstMeans}
 use Rattle.casefile.specs.Faults.{noFault, firstFault, meanFault}

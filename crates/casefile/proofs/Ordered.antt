@@ -9,12 +9,12 @@ use native.Mathlib.Nat.{le-refl}
 use native.Mathlib.Decide.{decLt}
 use borrow.Author.Tests.{ltb-true, ltb-false, lt-ltb, le-ltb, eq-eqb, ne-eqb, eqb-true}
 use lib.Dec.{ltb, eqb}
-use Rattle.profile.specs.Rows.{row}
-use Rattle.account.specs.Below.{somewhere}
+use Rattle.common.specs.Rows.{row}
+use Rattle.common.specs.Below.{somewhere}
 use Rattle.account.specs.Stands.{Stands, Readings, withReading, lastLessFirst}
 use Rattle.account.specs.Account.{energyMost}
 use Rattle.account.specs.Refusals.{belowEarlier, aboveLater, outOfOrder, tooMuch, readingRows}
-use Rattle.account.proofs.Below.{clash, refuted, both, none-is, some-at, first-is, last-is}
+use Rattle.common.proofs.Below.{clash, refuted, both, none-is, some-at, first-is, last-is}
 use Rattle.casefile.specs.Case.{daysOf, readingBoundary, readingCount}
 use Rattle.casefile.specs.Faults.{failsToRise}
 use Rattle.casefile.proofs.Items.{above, before, rises, falling}

@@ -13,14 +13,14 @@ use Rattle.profile.specs.Limits.{weightLeast, weightMost, spanMost}
 use Rattle.weights.specs.Weights.{weightsOf, Ready}
 use Rattle.weights.proofs.Span.{weights-length}
 use Rattle.weights.proofs.Table.{weights-bounded}
-use Rattle.account.specs.Below.{somewhere}
+use Rattle.common.specs.Below.{somewhere}
 use Rattle.account.specs.Stands.{Stands, nothing}
 use Rattle.account.specs.Account.{Account, days, shown, unfit, goodWeights, energyMost}
-use Rattle.profile.specs.Rows.{row}
+use Rattle.common.specs.Rows.{row}
 use Rattle.account.specs.Refusals.{readingRows, readingNumber, cutRows, cutNumber}
 use Rattle.account.specs.Calls.{cleared}
-use Rattle.account.proofs.Below.{clash, refuted, none-at}
-use Rattle.account.proofs.Readings.{every-is}
+use Rattle.common.proofs.Below.{clash, refuted, none-at}
+use Rattle.common.proofs.Below.{every-is}
 use Rattle.account.proofs.Sound.{sound-parts}
 use Rattle.account.specs.Slices.{Checked}
 use Rattle.account.proofs.Rows.{rows-through}

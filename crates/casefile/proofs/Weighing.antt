@@ -10,11 +10,13 @@ use lib.IntN.{ℤ}
 use lib.ListN.{length, take, drop, replicate, length-drop, length-replicate, getD-replicate}
 use lib.Seq.{ext-getD, getD-drop, length-take-le}
 use Rattle.profile.specs.Limits.{inRange, spanMost, profileCount, badSpan}
-use Rattle.account.proofs.Below.{both}
-use Rattle.profile.specs.Rows.{filled}
+use Rattle.common.proofs.Below.{both}
+use Rattle.common.specs.Rows.{filled}
 use Rattle.weights.specs.Means.{firstOut, someOut}
-use Rattle.weights.specs.Weights.{listOf, weightsOf, WeightsMet}
-use Rattle.weights.proofs.Span.{listOf-length, weights-length}
+use Rattle.common.specs.Lists.{listOf}
+use Rattle.weights.specs.Weights.{weightsOf, WeightsMet}
+use Rattle.common.proofs.Lists.{listOf-length}
+use Rattle.weights.proofs.Span.{weights-length}
 use Rattle.casefile.specs.declared.sections.SectionEnd.{SectionEnd}
 use Rattle.casefile.specs.Bytes.{byte, signed16}
 use Rattle.casefile.specs.Case.{profileByte, weekdayByte, meansLength, meanOffset, firstMeans, meansOf, daysOf}

@@ -8,7 +8,7 @@ use lib.Dec.{ltb}
 use lib.IntN.{pos}
 use lib.ListN.{length, replicate}
 use Rattle.profile.specs.Limits.{badSpan}
-use Rattle.profile.specs.Rows.{row, ifDone}
+use Rattle.common.specs.Rows.{row, ifDone}
 use Rattle.profile.specs.Answers.{weightNumber}
 use Rattle.weights.specs.Means.{firstOut, someOut}
 use Rattle.weights.specs.Weights.{Ruling, ruling}

@@ -6,7 +6,8 @@ use lib.IntN.{ℤ}
 use lib.ListN.{replicate}
 use Rattle.account.specs.Account.{Account, account}
 use Rattle.account.specs.Calls.{readingPut, cutPut}
-use Rattle.weights.specs.Weights.{listOf, weightsOf}
+use Rattle.common.specs.Lists.{listOf}
+use Rattle.weights.specs.Weights.{weightsOf}
 use Rattle.casefile.specs.Bytes.{byte, number16, number64, signed16}
 
 abbrev pub profileByte : List ℕ → ℕ

@@ -6,7 +6,7 @@ use mathlib.Core.List.{List}
 use lib.Dec.{leb, ltb}
 use lib.ListN.{length}
 use Rattle.profile.specs.Limits.{profileCount, inRange, badSpan}
-use Rattle.account.specs.Below.{somewhere}
+use Rattle.common.specs.Below.{somewhere}
 use Rattle.account.specs.Account.{energyMost}
 use Rattle.casefile.specs.Bytes.{signed16}
 use Rattle.casefile.specs.Case.{profileByte, weekdayByte, meansLength, meanOffset, daysOf, readingsOffset, readingsLength, readingOffset, readingBoundary, readingCount, cutsOffset, cutsLength, cutOffset, cutBoundary, endOf}

@@ -6,7 +6,7 @@ use mathlib.Core.Bool.{Bool, true, false, cond, not, _||_}
 use mathlib.Core.List.{List}
 use lib.Dec.{eqb}
 use lib.ListN.{length}
-use Rattle.profile.specs.Rows.{ifDone, zeros, filled}
+use Rattle.common.specs.Rows.{ifDone, zeros, filled}
 use Rattle.profile.specs.Limits.{spanMost}
 use Rattle.account.specs.Account.{Account, account, unfit, sound}
 use Rattle.account.specs.Account as accounts

@@ -8,7 +8,7 @@ use lib.Dec.{ltb}
 use lib.IntN.{ℤ}
 use lib.ListN.{length, take}
 use Rattle.profile.specs.Limits.{profileCount, spanMost}
-use Rattle.profile.specs.Rows.{zeros}
+use Rattle.common.specs.Rows.{zeros}
 use Rattle.account.specs.Account.{Account, energyMost}
 use Rattle.weights.specs.Means.{someOut}
 use Rattle.casefile.specs.declared.sections.SectionEnd.{SectionEnd}

@@ -28,13 +28,13 @@ pub fn read_case(
 ) -> CaseAnswer
     ensures { λ r. ⌜ ReadMet (now (file .entry)) (accountIn (weights .entry) (marks .entry) (counts .entry)) (number r) (place r) (days r) (accountIn (weights .exit) (marks .exit) (counts .exit)) (now (file .exit)) ⌝ }
 {
-    if weights.len() != Profile::SPAN {
+    if weights.len() != Profile::SPAN_MOST {
         return CaseAnswer::Refused(3, 0);
     }
-    if marks.len() != Profile::SPAN + 1 {
+    if marks.len() != Profile::SPAN_MOST + 1 {
         return CaseAnswer::Refused(3, 0);
     }
-    if counts.len() != Profile::SPAN + 1 {
+    if counts.len() != Profile::SPAN_MOST + 1 {
         return CaseAnswer::Refused(3, 0);
     }
     clear(weights, marks, counts);

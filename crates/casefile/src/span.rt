@@ -10,7 +10,7 @@ ghost use Prim.Native.Nat.{_+_, _≤_};
 ghost use lib.ListN.{length, take};
 ghost use Rattle.profile.specs.Limits.{spanMost};
 ghost use Rattle.weights.specs.Weights.{weightsOf};
-ghost use Rattle.profile.specs.Rows.{filled};
+ghost use Rattle.common.specs.Rows.{filled};
 ghost use Rattle.casefile.specs.Case.{meansLength, daysOf};
 ghost use Rattle.casefile.specs.Sections.{Reached, MeansMet, SpanMet, Clear, Weighable};
 ghost use Rattle.casefile.specs.Faults.{headFault};
@@ -35,10 +35,10 @@ fn head(file: &[u8]) -> SectionEnd
         return refused(13, file.len());
     }
     let count = number16(file, 2);
-    if count < 4 {
+    if count < Profile::SPAN_LEAST + 3 {
         return refused(3, 2);
     }
-    if Profile::SPAN + 3 < count {
+    if Profile::SPAN_MOST + 3 < count {
         return refused(3, 2);
     }
     passed(count - 3, 4)
@@ -82,7 +82,7 @@ pub(crate) fn span_at(file: &[u8], at: usize, weights: &mut [u32]) -> SectionEnd
     if head.number != 0 {
         return head;
     }
-    let mut means = [0i16; Profile::SPAN + 3];
+    let mut means = [0i16; Profile::SPAN_MOST + 3];
     let span = means_at(file, head.next, head.days + 3, &mut means);
     if span.number != 0 {
         return span;

@@ -7,9 +7,9 @@ use report::case_text;
 
 // Prints the text of the case file that is read from fd, as `arvadush` does.
 fn print_case(fd: i32) {
-    let mut weights = [0u32; Profile::SPAN];
-    let mut marks = [0u8; Profile::SPAN + 1];
-    let mut counts = [0u64; Profile::SPAN + 1];
+    let mut weights = [0u32; Profile::SPAN_MOST];
+    let mut marks = [0u8; Profile::SPAN_MOST + 1];
+    let mut counts = [0u64; Profile::SPAN_MOST + 1];
     let mut file = [0u8; BYTES_READ];
     let mut text = [0u8; TEXT_MOST];
     let read = io::read_full(fd, &mut file);

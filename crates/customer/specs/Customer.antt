@@ -9,8 +9,8 @@ use lib.ListN.{length}
 use Rattle.profile.specs.Limits.{badSpan}
 use Rattle.rounding.specs.Nearest.{nearest}
 use Rattle.account.specs.Account.{goodWeight, goodWeights, energyMost}
-use Rattle.profile.specs.Rows.{row, ifDone}
-use Rattle.profile.specs.Coefficients.{sumOf}
+use Rattle.common.specs.Rows.{row, ifDone}
+use Rattle.common.specs.Lists.{sumOf}
 use Rattle.customer.specs.declared.CustomerAnswer.{CustomerAnswer}
 use Rattle.customer.specs.declared.CustomerAnswer.the-variants.{Given, Unfit, Unsound, TooMuch, TooGreat}
 

@@ -5,7 +5,7 @@ ghost use mathlib.Core.Path.{_≡_};
 ghost use Prim.Native.Nat.{_≤_};
 ghost use lib.ListN.{length};
 ghost use Rattle.profile.specs.Limits.{spanMost};
-ghost use Rattle.profile.specs.Coefficients.{sumOf};
+ghost use Rattle.common.specs.Lists.{sumOf};
 ghost use Rattle.customer.specs.Customer.{CustomerMet, AmountMet};
 ghost use Rattle.customer.specs.Customer as answers;
 
@@ -43,10 +43,10 @@ pub fn customer_value(energy: u64, weights: &[u32]) -> CustomerAnswer
     ensures { λ r. ⌜ CustomerMet energy (now (weights .entry)) (answers.number r) (answers.value r) (now (weights .exit)) ⌝ }
 {
     let n = weights.len();
-    if n == 0 {
+    if n < Profile::SPAN_LEAST {
         return CustomerAnswer::Unfit;
     }
-    if Profile::SPAN < n {
+    if Profile::SPAN_MOST < n {
         return CustomerAnswer::Unfit;
     }
     if !account::good_weights(weights) {

@@ -10,10 +10,10 @@ use borrow.Author.Tests.{eqb-true, leb-true}
 use native.Mathlib.Omega.{arith}
 use Rattle.account.specs.Stands.{Stands, nothing}
 use Rattle.account.specs.Account.{Account, days, shown, goodMarks}
-use Rattle.profile.specs.Rows.{ifDone}
+use Rattle.common.specs.Rows.{ifDone}
 use Rattle.account.specs.Refusals.{accountRows, readingRows, withdrawRows, cutRows, uncutRows}
 use Rattle.account.specs.Calls.{readingPut, readingRemoved, cutPut, cutRemoved}
-use Rattle.account.proofs.Below.{every-at}
+use Rattle.common.proofs.Below.{every-at}
 use Rattle.account.proofs.Stores.{mark-is}
 use Rattle.account.proofs.Sound.{fit, sound-parts}
 use Rattle.account.specs.Slices.{Checked}
@@ -86,13 +86,13 @@ leaves-standing w before a e holds met =
     subst₂ (λ v s. Carries v s (accountAfter e)) (next .weighs) (next .shows ∙ sym (snoc (length w) nothing before e)) (carries (accountAfter e) (next .checked))
 
 -- a call's answer is what the table, applied to what the account shows, says
-answers : (a : Account) (e : Event) → Checked a → Step a e → answered e ≡ tableSays (days a) (shown a) (call e)
+answers : (a : Account) (e : Event) → Checked a → Step a e → answered e ≡ tableSays (a .weights) (shown a) (call e)
 answers a (run.reading k v r b) f met = rw (f .fits, f .sound) at (met .answers)
 answers a (run.withdraw k r b) f met = rw (f .fits, f .sound) at (met .answers)
 answers a (run.cut k r b) f met = rw (f .fits, f .sound) at (met .answers)
 answers a (run.uncut k r b) f met = rw (f .fits, f .sound) at (met .answers)
 answers a (run.statement o r m b out) f met = rw (f .fits, f .sound) at (met .answers)
 
-pub table-says : (w : List ℕ) (s : Stands) (a : Account) (e : Event) → Holds w s a → Step a e → answered e ≡ tableSays (length w) s (call e)
+pub table-says : (w : List ℕ) (s : Stands) (a : Account) (e : Event) → Holds w s a → Step a e → answered e ≡ tableSays w s (call e)
 table-says w s a e holds met =
-    subst₂ (λ v t. answered e ≡ tableSays (length v) t (call e)) (holds .weighs) (holds .shows) (answers a e (holds .checked) met)
+    subst₂ (λ v t. answered e ≡ tableSays v t (call e)) (holds .weighs) (holds .shows) (answers a e (holds .checked) met)

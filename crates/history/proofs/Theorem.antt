@@ -1,10 +1,9 @@
--- Demand 3: `demand3` proves specs/Demand3.antt for every accepted open and every list of calls that runs after it. Assumes nothing.
+-- Demand 3: `demand3` proves the claim of specs/Demand3.antt. Assumes nothing.
 use Prim.Native.Nat.{ℕ, suc, _≤_}
-use mathlib.Core.Path.{_≡_, sym, subst₂}
-use mathlib.Core.Bool.{true}
+use mathlib.Core.Path.{_≡_, refl, sym, subst₂, _∙_}
+use mathlib.Core.Bool.{Bool, true, false}
 use mathlib.Core.List.{List}
 use native.Mathlib.Omega.{arith}
-use lib.Dec.{lit<}
 use borrow.Author.Tests.{ltb-false}
 use lib.ListN.{length}
 use Rattle.account.specs.Stands.{Stands, nothing}
@@ -14,38 +13,64 @@ use Rattle.account.specs.Calls.{OpenMet}
 use Rattle.account.proofs.Pairs.{pairs}
 use Rattle.account.proofs.Sound.{sound-parts}
 use Rattle.account.specs.Slices.{Checked}
-use Rattle.account.proofs.Rows.{row-none}
+use Rattle.common.proofs.Rows.{rows-none}
 use Rattle.account.proofs.Keeps.{Holds, shown-inside, open-keeps}
-use Rattle.profile.specs.Rows.{ifDone}
-use Rattle.statement.specs.Parts.{Outputs, parts, written}
-use Rattle.statement.specs.Call.{StatementMet, unfitOutputs, outputsAfter}
+use Rattle.common.specs.Rows.{row}
+use Rattle.statement.specs.Parts.{Outputs, partsOf, written, statementOf}
+use Rattle.statement.specs.Call.{StatementMet, Ruling, unfitOutputs, tooFewReadings, zeroed}
 use Rattle.statement.specs.Facts.{Valid, TwoReadings}
 use Rattle.statement.proofs.Order.{valid-of-sound}
 use Rattle.statement.proofs.Successive.{successive}
-use Rattle.statement.proofs.Facts.{sums-up, shared, same-energy}
-use Rattle.history.specs.Run.{Event, Step, Run, standing}
+use Rattle.statement.proofs.Facts.{sums-up, shared, energy-nearest, same-energy}
+use Rattle.history.specs.Run.{Event, Step, Run, statementSays, standing}
 use Rattle.history.specs.Run as run
 use Rattle.history.specs.Demand3.{Demand3, Claim, Among, Given}
 use Rattle.history.proofs.Invariant.{along, table-says, leaves-standing}
+use Rattle.history.proofs.EveryList.{every-list-runs}
+use Rattle.history.proofs.Opens.{opens}
 
 -- a statement of m parts that was given where s stands: the rule's, and all that the rule's facts ask
 record By (w : List ℕ) (s : Stands) (m : ℕ) (out : Outputs) : Type 0 where
-  counts : m ≡ length (parts w s)
-  writes : out ≡ written (length w) (parts w s)
+  counts : m ≡ length (partsOf w s)
+  writes : out ≡ written (length w) (partsOf w s)
   two : TwoReadings w s
   valid : Valid w (s .readings)
   inside : (k : ℕ) → s .readings .at k ≡ true → k ≤ length w
 
 by : (a : Account) (lent : Outputs) (m : ℕ) (b : Account) (out : Outputs) → Checked a → StatementMet a lent 0 m b out → By (a .weights) (shown a) m out
 by a lent m b out f met =
-    let rows = row-none (unfitOutputs (days a) lent) _ _ (lit< tt) (sym (rw (f .fits, f .sound) at (met .answers))) in
+    let long = rows-none (λ (r : Ruling). r .number) (unfitOutputs (days a) lent) _ _ (λ z. omega arith) (sym (rw (f .fits, f .sound) at (met .answers))) in
+    let some = rows-none (λ (r : Ruling). r .number) (tooFewReadings (days a) (shown a .readings)) _ _ (λ z. omega arith) (long .1) in
     record {
-      counts = rw (← (met .answers)) at (met .gives);
-      writes = rw (← (met .answers)) at (met .writes);
-      two = ltb-false _ _ (row-none _ _ _ (lit< tt) (rows .1) .0);
+      counts = rw (long .0, f .fits, f .sound, some .0) at (met .gives);
+      writes = rw (long .0, f .fits, f .sound, some .0) at (met .writes);
+      two = ltb-false _ _ (some .0);
       valid = valid-of-sound a (f .sound);
       inside = shown-inside a (f .fits);
     }
+
+-- a refused statement has no parts
+module _ (w : List ℕ) (s : Stands) (lent : Outputs) where
+  abbrev ruled : Bool → Bool → Ruling
+  ruled unfit few =
+      row unfit (record { number = 3; parts = 0; memory = lent })
+      (row few (record { number = 11; parts = 0; memory = zeroed lent }) (record { number = 0; parts = length (partsOf w s); memory = statementOf w s }))
+
+  none-ruled : (unfit few : Bool) → (ruled unfit few .number ≡ 0 → ⊥) → ruled unfit few .parts ≡ 0
+  none-ruled true few some = refl
+  none-ruled false true some = refl
+  none-ruled false false some = absurd (some refl)
+
+  none-declined : (statementSays w s lent .number ≡ 0 → ⊥) → statementSays w s lent .parts ≡ 0
+  none-declined = none-ruled (unfitOutputs (length w) lent) (tooFewReadings (length w) (s .readings))
+
+-- .. and what the table says of memory
+declines : (a : Account) (lent : Outputs) (r m : ℕ) (b : Account) (out : Outputs) → Checked a → StatementMet a lent r m b out → (r ≡ 0 → ⊥) →
+    (m ≡ 0) × (out ≡ statementSays (a .weights) (shown a) lent .memory)
+declines a lent r m b out f met some =
+    let number : r ≡ statementSays (a .weights) (shown a) lent .number = rw (f .fits, f .sound) at (met .answers) in
+    let parts : m ≡ statementSays (a .weights) (shown a) lent .parts = rw (f .fits, f .sound) at (met .gives) in
+    (parts ∙ none-declined (a .weights) (shown a) lent (λ z. some (number ∙ z)), rw (f .fits, f .sound) at (met .writes))
 
 rises : (a : Account) → Checked a → (p q : ℕ) → p ≤ q → q ≤ days a → shown a .readings .at p ≡ true → shown a .readings .at q ≡ true →
     shown a .readings .count p ≤ shown a .readings .count q
@@ -65,11 +90,10 @@ module _ (w : List ℕ) (opened : Account) (start : Holds w nothing opened) (es 
       record {
         refusals = λ before e among. let (a, holds, met) = before-each before e among in table-says w (standing w before) a e holds met;
         leaves = λ before e among. let (a, holds, met) = before-each before e among in leaves-standing w before a e holds met;
-        writes =
-            λ before lent r m b out among.
+        declined =
+            λ before lent r m b out among some.
             let (a, holds, met) = before-each before (run.statement lent r m b out) among in
-            subst₂ (λ v s. (out ≡ outputsAfter r (written (length v) (parts v s)) lent) × (m ≡ ifDone r (length (parts v s)) 0))
-            (holds .weighs) (holds .shows) (rw (← (met .answers)) at (met .writes), rw (← (met .answers)) at (met .gives));
+            subst₂ (λ v s. (m ≡ 0) × (out ≡ statementSays v s lent .memory)) (holds .weighs) (holds .shows) (declines a lent r m b out (holds .checked) met some);
         statements = λ before m out g. let by = given before m out g in (by .counts, by .writes);
         successive = λ before m out g. let by = given before m out g in rw (by .counts, by .writes) (successive w (standing w before) (by .two));
         rising =
@@ -82,6 +106,10 @@ module _ (w : List ℕ) (opened : Account) (start : Holds w nothing opened) (es 
             λ before m out g i below.
             let by = given before m out g in
             rw (by .writes) (shared w (standing w before) (by .valid) (by .two) i (rw (by .counts) at below));
+        energies =
+            λ before m out g p q b adj low high mark.
+            let by = given before m out g in
+            rw (by .counts, by .writes) (energy-nearest w (standing w before) (by .valid) p q b adj (by .inside q (adj .at-q)) low high mark);
         boundaries =
             λ before₁ m₁ out₁ g₁ before₂ m₂ out₂ g₂ p q b adj₁ adj₂ same-p same-q low high mark₁ mark₂.
             let by₁ = given before₁ m₁ out₁ g₁ in
@@ -91,10 +119,21 @@ module _ (w : List ℕ) (opened : Account) (start : Holds w nothing opened) (es 
             (by₁ .inside q (adj₁ .at-q)) low high mark₁ mark₂);
       }
 
-opens : (before opened : Account) → OpenMet before 0 opened → Holds (before .weights) nothing opened
-opens before opened met =
+opened-holds : (before opened : Account) → OpenMet before 0 opened → Holds (before .weights) nothing opened
+opened-holds before opened met =
     let zero : openNumber before ≡ 0 = sym (met .answers) in
     rw (rw zero at (met .leaves)) (open-keeps before zero)
 
+after-open : (before opened : Account) → OpenMet before 0 opened → (es : List Event) → Run opened es → Demand3 (before .weights) es
+after-open before opened met es runs = claims (before .weights) opened (opened-holds before opened met) es runs
+
 pub demand3 : Claim
-demand3 before opened met es runs = claims (before .weights) opened (opens before opened met) es runs
+demand3 =
+    record {
+      after-open = after-open;
+      every-list = every-list-runs;
+      over-weights =
+          λ a opened from answered met.
+          let done : answered ≡ 0 = met .answers ∙ opens a from in
+          (done, after-open a opened (rw done at met));
+    }

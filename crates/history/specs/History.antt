@@ -3,7 +3,7 @@
 use Prim.Native.Nat.{ℕ}
 use mathlib.Core.Bool.{true, false}
 use mathlib.Core.List.{List, [], _∷_}
-use Rattle.profile.specs.Rows.{ifDone}
+use Rattle.common.specs.Rows.{ifDone}
 use Rattle.account.specs.Stands.{Stands, nothing, put, withReading, withoutReading}
 use Rattle.account.specs.Refusals.{readingRows, withdrawRows, cutRows, uncutRows}
 use Rattle.statement.specs.Parts.{Outputs}

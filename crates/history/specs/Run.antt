@@ -5,11 +5,11 @@ use mathlib.Core.List.{List, [], _∷_, map}
 use lib.ListN.{length}
 use Rattle.account.specs.Stands.{Stands}
 use Rattle.account.specs.Account.{Account}
-use Rattle.profile.specs.Rows.{row}
+use Rattle.common.specs.Rows.{row}
 use Rattle.account.specs.Refusals.{readingRows, withdrawRows, cutRows, uncutRows}
 use Rattle.account.specs.Calls.{ReadingMet, WithdrawMet, CutMet, UncutMet}
 use Rattle.statement.specs.Parts.{Outputs}
-use Rattle.statement.specs.Call.{StatementMet, statementRows, unfitOutputs}
+use Rattle.statement.specs.Call.{Ruling, StatementMet, statementRows, unfitOutputs}
 use Rattle.history.specs.History.{Call}
 use Rattle.history.specs.History as history
 
@@ -46,13 +46,19 @@ answered (cut k r a) = r
 answered (uncut k r a) = r
 answered (statement o r m a e) = r
 
--- the number that the table, applied to what stands, gives the call over n days: 3 and 5 of the account cannot arise after open
-abbrev pub tableSays : ℕ → Stands → Call → ℕ
-tableSays n s (Call.reading k v) = readingRows n s k v
-tableSays n s (Call.withdraw k) = withdrawRows n s k
-tableSays n s (Call.cut k) = cutRows n s k
-tableSays n s (Call.uncut k) = uncutRows n s k
-tableSays n s (Call.statement lent) = row (unfitOutputs n lent) 3 (statementRows n s)
+-- what the table, applied to what stands, lays down for a statement: 3 and 5 of the account cannot arise after open
+abbrev pub statementSays : List ℕ → Stands → Outputs → Ruling
+statementSays w s lent =
+    row (unfitOutputs (length w) lent) (record { number = 3; parts = 0; memory = lent })  -- a lent length unfit
+    (statementRows w s lent)
+
+-- the number that it gives the call
+abbrev pub tableSays : List ℕ → Stands → Call → ℕ
+tableSays w s (Call.reading k v) = readingRows (length w) s k v
+tableSays w s (Call.withdraw k) = withdrawRows (length w) s k
+tableSays w s (Call.cut k) = cutRows (length w) s k
+tableSays w s (Call.uncut k) = uncutRows (length w) s k
+tableSays w s (Call.statement lent) = statementSays w s lent .number
 
 -- the call meets its contract on the account that it is lent
 abbrev pub Step : Account → Event → Type 0

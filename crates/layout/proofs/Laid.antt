@@ -8,7 +8,6 @@ use lib.ListN.{length, take, drop, set, length-append}
 use lib.Seq.{sets, sets-eq, length-sets, take-at}
 use mathlib.Core.Bool.{true, false}
 use Rattle.statement.specs.Parts.{Outputs}
-use Rattle.statement.specs.Shares.{total}
 use Rattle.layout.specs.Text.{LaidOut, TextMet, noStatement, statementText, partsText}
 
 sets-append : (o : List ℕ) (at : ℕ) (xs ys : List ℕ) → sets (sets o at xs) (at + length xs) ys ≡ sets o at (xs ++ ys)
@@ -48,6 +47,6 @@ module _ {text out : List ℕ} {next : ℕ} {after : List ℕ} (laid : LaidOut 0
 pub none-laid : (o : Outputs) (m : ℕ) (out : List ℕ) → noStatement o m ≡ true → TextMet (statementText o m) out 0 out o o
 none-laid o m out no-such = rw no-such (record { prints = record { ends = refl; stored = refl }; stays = refl })
 
-pub given-laid : (o : Outputs) (m sum : ℕ) (out : List ℕ) (next : ℕ) (after : List ℕ) →
-    noStatement o m ≡ false → sum ≡ total o m → LaidOut 0 (partsText o m sum) out next after → TextMet (statementText o m) out next after o o
-given-laid o m sum out next after such is text = rw such (record { prints = rw is at text; stays = refl })
+pub given-laid : (o : Outputs) (m : ℕ) (out : List ℕ) (next : ℕ) (after : List ℕ) →
+    noStatement o m ≡ false → LaidOut 0 (partsText o m) out next after → TextMet (statementText o m) out next after o o
+given-laid o m out next after such text = rw such (record { prints = text; stays = refl })

@@ -3,5 +3,6 @@ pub mod Decimal
 pub mod ReadBack
 pub mod Laid
 mod Sums
+pub mod Full
 pub mod Texts
 pub mod Fits

@@ -5,7 +5,7 @@ use mathlib.Core.List.{[], _++_}
 use Prim.Native.Nat.{ℕ, _+_}
 use native.Mathlib.Numerals.{add-one}
 use lib.ListN.{getD}
-use Rattle.account.specs.Below.{somewhere}
+use Rattle.common.specs.Below.{somewhere}
 use Rattle.statement.specs.Parts.{Outputs}
 use Rattle.statement.specs.Shares.{total}
 use Rattle.layout.specs.Text.{partLines, lineOf}

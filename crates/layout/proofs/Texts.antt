@@ -1,47 +1,42 @@
 -- The text of an account, by what the statement call answers (Case file). Assumes nothing.
 use Prim.Native.Nat.{ℕ, _<_, _≤_}
-use mathlib.Core.Path.{_≡_, sym, ap, ap₂, _∙_}
-use mathlib.Core.Bool.{and-false}
+use mathlib.Core.Path.{_≡_, refl, sym, ap, _∙_}
+use mathlib.Core.Bool.{Bool, true, false, and-false}
 use mathlib.Core.List.{List, _++_}
-use native.Mathlib.Decide.{ℕ-discrete}
-use borrow.Author.Tests.{lt-leb, eq-eqb, ne-eqb}
+use borrow.Author.Tests.{lt-leb, eq-eqb}
 use lib.ListN.{length, take, drop}
 use lib.Seq.{length-take-le, take-at}
 use Rattle.profile.specs.Limits.{spanMost}
-use Rattle.account.specs.Account.{Account, days, shown}
-use Rattle.statement.specs.Parts.{Outputs, parts, written}
-use Rattle.statement.specs.Call.{StatementMet, accountNumber, statementNumber, outputsAfter}
-use Rattle.layout.specs.Text.{statementText, refusalText}
+use Rattle.account.specs.Account.{Account, days, shown, unfit, sound}
+use Rattle.statement.specs.Parts.{Outputs, partsOf, statementOf}
+use Rattle.statement.specs.Call.{StatementMet, unfitOutputs, tooFewReadings}
+use Rattle.layout.specs.Text.{refusalText}
 use Rattle.layout.specs.Accounts.{accountText, answeredText}
+use Rattle.layout.proofs.Full.{in-full}
 
-pub refusal-says : (a : Account) (k : ℕ) → accountNumber a ≡ k → (k ≡ 0 → ⊥) → accountText a ≡ refusalText k 0
-refusal-says a k is refused =
-    simp (ne-eqb (accountNumber a) 0 (λ e. refused (sym is ∙ e))) (ap (λ (n : ℕ). refusalText n 0) is)
-
-pub too-long : (a : Account) → spanMost < days a → accountNumber a ≡ 3
+pub too-long : (a : Account) → spanMost < days a → accountText a ≡ refusalText 3 0
 too-long a h = simp (lt-leb (days a) spanMost h, and-false)
 
 module _ (a : Account) (o : Outputs) (f : length (o .from) ≡ days a) (t : length (o .to) ≡ days a) (w : length (o .wh) ≡ days a)
     (number count : ℕ) (out : Outputs) (met : StatementMet a o number count a out) where
-  same-number : statementNumber a o ≡ accountNumber a
-  same-number = simp (eq-eqb (length (o .from)) (days a) f, eq-eqb (length (o .to)) (days a) t, eq-eqb (length (o .wh)) (days a) w)
+  long : unfitOutputs (days a) o ≡ false
+  long = simp (eq-eqb (length (o .from)) (days a) f, eq-eqb (length (o .to)) (days a) t, eq-eqb (length (o .wh)) (days a) w)
 
-  given-says : statementNumber a o ≡ 0 → statementText out count ≡ statementText (written (days a) (parts (a .weights) (shown a))) (length (parts (a .weights) (shown a)))
-  given-says done =
-      let all : count ≡ length (parts (a .weights) (shown a)) = met .gives ∙ simp done in
-      ap₂ statementText (met .writes ∙ ap (λ (n : ℕ). outputsAfter n (written (days a) (parts (a .weights) (shown a))) o) done) all
-
-  -- what the call answered and wrote is what is printed of the account
+  -- what the call answered and wrote is what is printed of the account, row by row
   pub answered-says : answeredText number count out ≡ accountText a
-  answered-says =
-      let is : number ≡ accountNumber a = met .answers ∙ same-number in
-      by (ℕ-discrete (accountNumber a) 0) is (λ e. given-says (same-number ∙ e))
+  answered-says = by (unfit a) refl (sound a) refl (tooFewReadings (days a) (shown a .readings)) refl
     where
-      by : Dec (accountNumber a ≡ 0) → number ≡ accountNumber a →
-          (accountNumber a ≡ 0 → statementText out count ≡ statementText (written (days a) (parts (a .weights) (shown a))) (length (parts (a .weights) (shown a)))) →
+      by : (u : Bool) → unfit a ≡ u → (s : Bool) → sound a ≡ s → (few : Bool) → tooFewReadings (days a) (shown a .readings) ≡ few →
           answeredText number count out ≡ accountText a
-      by (yes e) is given = rw (is, e) (given e)
-      by (no n) is given = rw is (simp (ne-eqb (accountNumber a) 0 n))
+      by true is-u s is-s few is-few = let is : number ≡ 3 = rw (long, is-u) at (met .answers) in rw (is, is-u) refl
+      by false is-u false is-s few is-few = let is : number ≡ 5 = rw (long, is-u, is-s) at (met .answers) in rw (is, is-u, is-s) refl
+      by false is-u true is-s true is-few = let is : number ≡ 11 = rw (long, is-u, is-s, is-few) at (met .answers) in rw (is, is-u, is-s, is-few) refl
+      by false is-u true is-s false is-few =
+          let is : number ≡ 0 = rw (long, is-u, is-s, is-few) at (met .answers) in
+          let count-is : count ≡ length (partsOf (a .weights) (shown a)) = rw (long, is-u, is-s, is-few) at (met .gives) in
+          let out-is : out ≡ statementOf (a .weights) (shown a) = rw (long, is-u, is-s, is-few) at (met .writes) in
+          let full = in-full a (record { fits = is-u; sound = is-s }) is-few in
+          rw (is, is-u, is-s, is-few, count-is, out-is, full) refl
 
 -- the first of a buffer whose first part came back
 pub front-long : (d e : List ℕ) (n : ℕ) → n ≤ length d → length e ≡ length (take n d) → n ≡ length (take n (e ++ drop n d))

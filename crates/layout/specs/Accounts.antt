@@ -1,19 +1,21 @@
 -- What is printed of an account (Case file): its statement, or the one line of a refusal, "its number and the place (0 if it has none)".
 use Prim.Native.Nat.{ℕ, _≤_}
+use mathlib.Core.Bool.{not}
 use mathlib.Core.List.{List}
 use lib.ListN.{length}
-use Rattle.profile.specs.Rows.{ifDone}
-use Rattle.account.specs.Account.{Account, shown}
-use Rattle.statement.specs.Parts.{Outputs, parts, statementOf}
-use Rattle.statement.specs.Call.{accountNumber}
-use Rattle.layout.specs.Text.{statementText, refusalText}
+use Rattle.common.specs.Rows.{row, ifDone}
+use Rattle.account.specs.Account.{Account, days, shown, unfit, sound}
+use Rattle.statement.specs.Parts.{Outputs, partsOf, statementOf}
+use Rattle.statement.specs.Call.{tooFewReadings}
+use Rattle.layout.specs.Text.{partsText, statementText, refusalText}
 
--- the statement of an account, or its refusal, which has no place
+-- the table of the statement call, with the text beside each row: a refusal has no place
 abbrev pub accountText : Account → List ℕ
 accountText a =
-    ifDone (accountNumber a)
-    (statementText (statementOf (a .weights) (shown a)) (length (parts (a .weights) (shown a))))
-    (refusalText (accountNumber a) 0)
+    row (unfit a) (refusalText 3 0)  -- n outside 1 to 1,096, or a lent length unfit
+    (row (not (sound a)) (refusalText 5 0)  -- account unsound
+    (row (tooFewReadings (days a) (shown a .readings)) (refusalText 11 0)  -- fewer than two readings
+    (partsText (statementOf (a .weights) (shown a)) (length (partsOf (a .weights) (shown a))))))
 
 -- what a statement call answered and wrote, as text
 abbrev pub answeredText : (number parts : ℕ) → Outputs → List ℕ

@@ -7,7 +7,7 @@ use mathlib.Core.List.{List, [], _∷_, _++_}
 use lib.Dec.{leb, ltb, eqb}
 use lib.ListN.{length, getD}
 use lib.Seq.{sets}
-use Rattle.account.specs.Below.{somewhere}
+use Rattle.common.specs.Below.{somewhere}
 use Rattle.account.specs.Account.{energyMost}
 use Rattle.profile.specs.Limits.{spanMost}
 use Rattle.statement.specs.Parts.{Outputs}
@@ -84,13 +84,13 @@ noStatement o m =
     ltb (length (o .wh)) m ||
     somewhere (λ i. ltb energyMost (getD (o .wh) i 0)) m
 
--- the text of a statement of m parts that add up to `sum`
-abbrev pub partsText : Outputs → ℕ → ℕ → List ℕ
-partsText o m sum = partsWord ++ decimal m ++ lineFeed ++ partLines o m ++ sumWord ++ decimal sum ++ lineFeed
+-- the number of parts, their lines, and their sum
+abbrev pub partsText : Outputs → ℕ → List ℕ
+partsText o m = partsWord ++ decimal m ++ lineFeed ++ partLines o m ++ sumWord ++ decimal (total o m) ++ lineFeed
 
 -- the text of a statement of m parts; none where there can be no such statement
 abbrev pub statementText : Outputs → ℕ → List ℕ
-statementText o m = cond (noStatement o m) [] (partsText o m (total o m))
+statementText o m = cond (noStatement o m) [] (partsText o m)
 
 -- the one line of a refusal
 abbrev pub refusalText : ℕ → ℕ → List ℕ

@@ -11,7 +11,7 @@ ghost use Prim.Native.Nat.{ℕ, _+_, _*_, _<_, _≤_, _^_};
 ghost use lib.Dec.{ltb};
 ghost use lib.ListN.{length, getD};
 ghost use Rattle.profile.specs.Limits.{spanMost};
-ghost use Rattle.account.specs.Below.{somewhere};
+ghost use Rattle.common.specs.Below.{somewhere};
 ghost use Rattle.account.specs.Account.{energyMost, accountIn};
 ghost use Rattle.statement.specs.Parts.{outputs, outputsIn};
 ghost use Rattle.statement.specs.Shares.{total};
@@ -38,7 +38,7 @@ pub fn statement_text(from: &[u16], to: &[u16], wh: &[u64], parts: usize, out: &
     if parts == 0 {
         return 0;
     }
-    if Profile::SPAN < parts {
+    if Profile::SPAN_MOST < parts {
         return 0;
     }
     if from.len() < parts {
@@ -59,7 +59,8 @@ pub fn statement_text(from: &[u16], to: &[u16], wh: &[u64], parts: usize, out: &
 // The words, lines and sum of a statement, at the start of out.
 fn parts_text(from: &[u16], to: &[u16], wh: &[u64], parts: usize, sum: u64, out: &mut [u8]) -> usize
     requires { ⌜ (parts ≤ spanMost) × (parts ≤ length (now from)) × (parts ≤ length (now to)) × (parts ≤ length (now wh)) ⌝ }
-    ensures { λ r. ⌜ LaidOut 0 (partsText (outputsIn (from .entry) (to .entry) (wh .entry)) parts sum) (now (out .entry)) r (now (out .exit)) ⌝ }
+    requires { ⌜ sum ≡ total (outputsIn from to wh) parts ⌝ }
+    ensures { λ r. ⌜ LaidOut 0 (partsText (outputsIn (from .entry) (to .entry) (wh .entry)) parts) (now (out .entry)) r (now (out .exit)) ⌝ }
 {
     let at = put::word(out, 0, b"parts ");
     let at = put::number(out, at, parts as u64, b'\n');
@@ -129,12 +130,12 @@ pub fn account_text(weights: &[u32], marks: &[u8], counts: &[u64], out: &mut [u8
     ensures { λ r. ⌜ TextMet (accountText (accountIn (weights .entry) (marks .entry) (counts .entry))) (now (out .entry)) r (now (out .exit)) (accountIn (weights .entry) (marks .entry) (counts .entry)) (accountIn (weights .exit) (marks .exit) (counts .exit)) ⌝ }
     ensures { λ r. do ⌜ (← ⟦TEXT_MOST⟧ .entry) ≡ textMost ⌝ }
 {
-    if Profile::SPAN < weights.len() {
+    if Profile::SPAN_MOST < weights.len() {
         return refusal_text(3, 0, out);
     }
-    let mut from = [0u16; Profile::SPAN];
-    let mut to = [0u16; Profile::SPAN];
-    let mut wh = [0u64; Profile::SPAN];
+    let mut from = [0u16; Profile::SPAN_MOST];
+    let mut to = [0u16; Profile::SPAN_MOST];
+    let mut wh = [0u64; Profile::SPAN_MOST];
     with_outputs(weights, marks, counts, &mut from, &mut to, &mut wh, out)
 }
 

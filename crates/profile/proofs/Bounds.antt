@@ -17,7 +17,7 @@ use Rattle.rounding.proofs.Integers.{floor-le}
 use Rattle.profile.specs.Limits.{inRange, coldest, weightLeast, weightMost, profileCount}
 use Rattle.profile.specs.Coefficients.{profileOf}
 use Rattle.profile.specs.Value.{cold, sLow, sHigh, line, linear, valueLow, valueHigh}
-use Rattle.profile.specs.Weight.{factorOf, floorWeight, weightOf, WholeTable}
+use Rattle.profile.specs.Weight.{factorOf, weightOf, WholeTable}
 use Rattle.profile.specs.declared.Profile.{Profile}
 use Rattle.profile.proofs.Integer.{le-trans, sum-le, scale-le, fall-le, larger-le, natural, at-least, at-most, sfits}
 use Rattle.profile.proofs.Range.{cold-le, le-warm}
@@ -132,23 +132,21 @@ module _ (k : ℕ) (t : ℤ) (h : k < profileCount) (r : inRange t ≡ true) whe
   weight-quotient w = floor-natural (valueLow (profileOf k) t) (factorOf k w) 10_000_000 (yes-nonNeg low-natural)
 
   module _ (w : ℕ) (g : w < 7) where
-    heavy : pos weightLeast ≤ℤ floorWeight k w t
+    abbrev floor : ℤ
+    floor = floorℤ (valueLow (profileOf k) t *ℤ pos (factorOf k w)) 10_000_000
+
+    heavy : pos weightLeast ≤ℤ floor
     heavy =
         le-trans (profile-tested k h .heavy w g) (floor-le 10_000_000 (lit< tt) (scale-le (factorOf k w) low-least))
 
-    light : floorWeight k w t ≤ℤ pos weightMost
+    light : floor ≤ℤ pos weightMost
     light =
         le-trans (floor-le 10_000_000 (lit< tt) (scale-le (factorOf k w) low-most)) (profile-tested k h .light w g)
-
-    -- the weight is the floor itself
-    weight-floor : floorWeight k w t ≡ pos (weightOf k w t)
-    unfolding weightOf
-    weight-floor = natural weightLeast heavy
 
 pub whole-table : WholeTable
 unfolding weightOf
 whole-table k w t h g r = (
-  weight-floor k t h r w g,
+  low-natural k t h r,
   at-least weightLeast (heavy k t h r w g),
   at-most weightLeast weightMost (heavy k t h r w g) (light k t h r w g),
 )

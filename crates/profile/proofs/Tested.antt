@@ -10,7 +10,8 @@ use lib.ListN.{length, getD}
 use lib.Signed.{leZ, _≤ℤ_}
 use Rattle.rounding.specs.Integers.{floorℤ}
 use Rattle.profile.specs.Limits.{coldest, warmest, weightLeast, weightMost, profileCount}
-use Rattle.profile.specs.Coefficients.{table, noProfile, profileOf, sumOf}
+use Rattle.common.specs.Lists.{sumOf}
+use Rattle.profile.specs.Coefficients.{table, noProfile, profileOf}
 use Rattle.profile.specs.Value.{linear}
 use Rattle.profile.specs.declared.Profile.{Profile}
 

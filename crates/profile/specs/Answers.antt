@@ -5,11 +5,12 @@ use mathlib.Core.Bool.{not}
 use Prim.Native.Nat.{ℕ, _≤_}
 use lib.Dec.{leb, ltb}
 use lib.IntN.{ℤ, pos}
-use Rattle.profile.specs.Rows.{row, ifDone}
-use Rattle.profile.specs.Limits.{inRange, coldest, warmest, weightLeast, weightMost, spanMost, profileCount}
-use Rattle.profile.specs.Coefficients.{profileOf, sumOf}
+use Rattle.common.specs.Rows.{row, ifDone}
+use Rattle.profile.specs.Limits.{inRange, coldest, warmest, weightLeast, weightMost, spanLeast, spanMost, profileCount}
+use Rattle.common.specs.Lists.{sumOf}
+use Rattle.profile.specs.Coefficients.{profileOf}
 use Rattle.profile.specs.Value.{valueLow, valueHigh}
-use Rattle.profile.specs.Weight.{floorWeight}
+use Rattle.profile.specs.Weight.{weightOf}
 use Rattle.profile.specs.declared.Numbered.{Numbered}
 use Rattle.profile.specs.declared.ValueAnswer.{ValueAnswer}
 use Rattle.profile.specs.declared.ValueAnswer.the-variants as Valued
@@ -28,15 +29,18 @@ pub record ByNumberMet (profile : ℕ) (r : Numbered) : Type 0 where
   pub week : profileNumber profile ≡ 0 → sumOf (r .profile .factors) ≡ 70_000
 
 -- the limits, as the code names them
-pub record LimitsMet (cold warm : ℤ) (span count : ℕ) : Type 0 where
+pub record LimitsMet (cold warm : ℤ) (count : ℕ) : Type 0 where
   pub cold-is : cold ≡ coldest
   pub warm-is : warm ≡ warmest
-  pub span-is : span ≡ spanMost
   pub count-is : count ≡ profileCount
 
 pub record WeightLimitsMet (least most : ℕ) : Type 0 where
   pub least-is : least ≡ weightLeast
   pub most-is : most ≡ weightMost
+
+pub record SpanLimitsMet (least most : ℕ) : Type 0 where
+  pub least-is : least ≡ spanLeast
+  pub most-is : most ≡ spanMost
 
 -- ---- profile value
 abbrev pub valueNumber : ℕ → ℤ → ℕ
@@ -109,6 +113,6 @@ weightGiven (Weighed.OutOfRange k) = 0
 pub record WeightMet (profile weekday : ℕ) (t : ℤ) (answered placed given : ℕ) : Type 0 where
   pub answers : answered ≡ weightNumber profile weekday t
   pub places : placed ≡ 0
-  pub gives : pos given ≡ ifDone (weightNumber profile weekday t) (floorWeight profile weekday t) (pos 0)
+  pub gives : given ≡ ifDone (weightNumber profile weekday t) (weightOf profile weekday t) 0
   pub least : weightNumber profile weekday t ≡ 0 → weightLeast ≤ given
   pub most : weightNumber profile weekday t ≡ 0 → given ≤ weightMost

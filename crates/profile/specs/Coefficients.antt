@@ -1,7 +1,7 @@
 -- The ten profiles (Profiles): "Numbers 0 to 9, in the order of table 4"; "Coefficients A, B, C, D, mH, bH, mW, bW are whole ten-millionths,
 -- factors F whole ten-thousandths, Monday 0 to Sunday 6." The numbers are those of tables 4 and 5 of source document 001.
 use mathlib.Core.List.{List, [], _∷_}
-use Prim.Native.Nat.{ℕ, _+_}
+use Prim.Native.Nat.{ℕ}
 use lib.IntN.{pos}
 use lib.ListN.{getD}
 use Rattle.profile.specs.Limits.{minus}
@@ -40,11 +40,6 @@ gmf33 = record { a = 12_328_655; b = minus 347_213_605; c = 58_164_304; d = 873_
 
 abbrev pub table : List Profile
 table = hef33 ∷ hmf33 ∷ hko03 ∷ ghd33 ∷ gmk33 ∷ gko33 ∷ gbh33 ∷ gba33 ∷ gga33 ∷ gmf33 ∷ []
-
--- the sum of some numbers: 70,000 for the factors of every row of table 5, and Z for the weights of a customer value
-unfoldable pub sumOf : List ℕ → ℕ
-sumOf [] = 0
-sumOf (x ∷ xs) = x + sumOf xs
 
 -- what is given where there is no profile of a number
 abbrev pub noProfile : Profile

@@ -22,12 +22,15 @@ weightLeast = 1
 abbrev pub weightMost : ℕ
 weightMost = 6_999_999
 
+abbrev pub spanLeast : ℕ
+spanLeast = 1
+
 abbrev pub spanMost : ℕ
 spanMost = 1_096
 
 -- a number of days that a span can have
 abbrev pub isSpan : ℕ → Bool
-isSpan n = leb 1 n && leb n spanMost
+isSpan n = leb spanLeast n && leb n spanMost
 
 -- "n outside 1 to 1,096"
 abbrev pub badSpan : ℕ → Bool

@@ -3,6 +3,7 @@ use mathlib.Core.Path.{_≡_}
 use mathlib.Core.Bool.{true}
 use Prim.Native.Nat.{ℕ, _≤_, _<_}
 use lib.IntN.{ℤ, pos, natAbs, _*ℤ_}
+use lib.Signed.{_≤ℤ_}
 use lib.ListN.{getD}
 use Rattle.rounding.specs.Integers.{floorℤ}
 use Rattle.profile.specs.Limits.{inRange, profileCount, weightLeast, weightMost}
@@ -13,16 +14,12 @@ use Rattle.profile.specs.Value.{valueLow}
 abbrev pub factorOf : ℕ → ℕ → ℕ
 factorOf profile weekday = getD (profileOf profile .factors) weekday 0
 
--- the weight of a profile on a weekday at temperature t, as an integer
-abbrev pub floorWeight : ℕ → ℕ → ℤ → ℤ
-floorWeight profile weekday t = floorℤ (valueLow (profileOf profile) t *ℤ pos (factorOf profile weekday)) 10_000_000
-
--- the same as a natural number: no weight of the table is below zero (`WholeTable`)
+-- the weight of a profile on a weekday at temperature t; no low value of the table is below zero (`WholeTable`), so neither is the floor
 unfoldable pub weightOf : ℕ → ℕ → ℤ → ℕ
-weightOf profile weekday t = natAbs (floorWeight profile weekday t)
+weightOf profile weekday t = natAbs (floorℤ (valueLow (profileOf profile) t *ℤ pos (factorOf profile weekday)) 10_000_000)
 
 -- "Every weight that the table can give is 1 to 6,999,999, shown over the whole table" (proofs/Bounds, `whole-table`)
 abbrev pub WholeTable : Type 0
 WholeTable =
     (profile weekday : ℕ) (t : ℤ) → profile < profileCount → weekday < 7 → inRange t ≡ true →
-    (floorWeight profile weekday t ≡ pos (weightOf profile weekday t)) × (weightLeast ≤ weightOf profile weekday t) × (weightOf profile weekday t ≤ weightMost)
+    (pos 0 ≤ℤ valueLow (profileOf profile) t) × (weightLeast ≤ weightOf profile weekday t) × (weightOf profile weekday t ≤ weightMost)

@@ -4,7 +4,7 @@ mod table;
 
 ghost use mathlib.Core.Path.{_≡_};
 ghost use Rattle.profile.specs.Limits.{inRange};
-ghost use Rattle.profile.specs.Answers.{ByNumberMet, LimitsMet, WeightLimitsMet, valueAnswered, valuePlaced, lowGiven, highGiven, ValueMet, weightAnswered, weightPlaced, weightGiven, WeightMet};
+ghost use Rattle.profile.specs.Answers.{ByNumberMet, LimitsMet, WeightLimitsMet, SpanLimitsMet, valueAnswered, valuePlaced, lowGiven, highGiven, ValueMet, weightAnswered, weightPlaced, weightGiven, WeightMet};
 
 // One profile, a standard load profile SigLinDe: coefficients in ten-millionths, weekday factors in ten-thousandths, Monday first.
 pub struct Profile {
@@ -63,16 +63,19 @@ impl Profile {
 
     pub const WEIGHT_MOST: u32 = 6_999_999;
 
-    // The days of the longest span.
-    pub const SPAN: usize = 1_096;
+    // Days of a span.
+    pub const SPAN_LEAST: usize = 1;
+
+    pub const SPAN_MOST: usize = 1_096;
 
     pub const COUNT: u8 = 10;
 
     // The profile of a number, 0 to 9.
     pub fn by_number(number: u8) -> Numbered
         ensures { λ r. ⌜ ByNumberMet number r ⌝ }
-        ensures { λ r. do ⌜ LimitsMet (← ⟦Profile::COLDEST⟧ .entry) (← ⟦Profile::WARMEST⟧ .entry) (← ⟦Profile::SPAN⟧ .entry) (← ⟦Profile::COUNT⟧ .entry) ⌝ }
+        ensures { λ r. do ⌜ LimitsMet (← ⟦Profile::COLDEST⟧ .entry) (← ⟦Profile::WARMEST⟧ .entry) (← ⟦Profile::COUNT⟧ .entry) ⌝ }
         ensures { λ r. do ⌜ WeightLimitsMet (← ⟦Profile::WEIGHT_LEAST⟧ .entry) (← ⟦Profile::WEIGHT_MOST⟧ .entry) ⌝ }
+        ensures { λ r. do ⌜ SpanLimitsMet (← ⟦Profile::SPAN_LEAST⟧ .entry) (← ⟦Profile::SPAN_MOST⟧ .entry) ⌝ }
     {
         if Profile::COUNT <= number {
             return Numbered {

@@ -44,4 +44,4 @@ module _ (s : List ℕ) (e : faultOf s ≡ noFault) where
 
 pub file-demand3 : FileDemand3
 file-demand3 s e lent r m left out met =
-    demand3 (emptyCase s) (emptyCase s) (opened s e) _ (cuts-lead s e (cutsLength s) (omega arith) (run.statement lent r m left out ∷ []) (met, tt))
+    demand3 .after-open (emptyCase s) (emptyCase s) (opened s e) _ (cuts-lead s e (cutsLength s) (omega arith) (run.statement lent r m left out ∷ []) (met, tt))

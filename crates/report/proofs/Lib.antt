@@ -1,6 +1,5 @@
 -- The laws that the proofs of crate report share, and its theorems (Case file).
 mod Taken
 pub mod Fits
-pub mod Full
 pub mod Printed
 pub mod Calls

@@ -10,13 +10,13 @@ use lib.ListN.{length, take, replicate, length-append}
 use lib.Seq.{take-at}
 use Rattle.profile.specs.Limits.{profileCount, spanMost, inRange, badSpan}
 use Rattle.account.specs.Account.{Account, account, unfit, energyMost}
-use Rattle.account.specs.Below.{somewhere}
-use Rattle.account.proofs.Below.{clash, refuted}
+use Rattle.common.specs.Below.{somewhere}
+use Rattle.common.proofs.Below.{clash, refuted}
 use Rattle.layout.specs.Text.{refusalText}
 use Rattle.casefile.specs.Case.{profileByte, weekdayByte, meansLength, meanOffset, daysOf, readingsOffset, readingsLength, readingOffset, readingBoundary, readingCount, cutsOffset, cutsLength, cutOffset, cutBoundary, endOf, accountOf}
 use Rattle.casefile.specs.Bytes.{signed16}
 use Rattle.casefile.specs.Faults.{Fault, noFault, refused, fault, _before_, firstFault, early, failsToRise, meanFault, readingFault, cutFault, faultOf, headFault, meansFault, readingsFault}
-use Rattle.profile.specs.Rows.{filled}
+use Rattle.common.specs.Rows.{filled}
 use Rattle.casefile.specs.Reader.{faultNumber, faultPlace, unfitSlices, verdict, full, ReadMet}
 use Rattle.casefile.proofs.Kept.{Kept, cuts-kept}
 use Rattle.casefile.proofs.Sound.{days-kept, case-sound}

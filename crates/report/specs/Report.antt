@@ -3,24 +3,15 @@
 use Prim.Native.Nat.{ℕ, _≤_}
 use mathlib.Core.Path.{_≡_}
 use mathlib.Core.List.{List}
-use lib.ListN.{length, take}
-use Rattle.profile.specs.Rows.{ifDone}
-use Rattle.account.specs.Stands.{lastLessFirst}
-use Rattle.account.specs.Account.{Account, days, shown}
-use Rattle.statement.specs.Parts.{parts, statementOf}
-use Rattle.statement.specs.Call.{accountNumber}
-use Rattle.layout.specs.Text.{partsText, refusalText, LaidOut}
+use lib.ListN.{take}
+use Rattle.common.specs.Rows.{ifDone}
+use Rattle.account.specs.Account.{Account}
+use Rattle.layout.specs.Text.{refusalText, LaidOut}
 use Rattle.layout.specs.Accounts.{accountText, textMost}
 use Rattle.casefile.specs.Case.{accountOf}
 use Rattle.casefile.specs.Faults.{Fault, faultOf}
 use Rattle.casefile.specs.Length.{bytesRead}
 use Rattle.casefile.specs.Reader.{faultNumber, faultPlace, verdict, slicesAfter}
-
--- a statement that is given is printed in full, and the sum printed is the last reading less the first (proofs/Full, `in-full`)
-abbrev pub PrintedInFull : Type 0
-PrintedInFull = (a : Account) → accountNumber a ≡ 0 →
-    accountText a ≡
-    partsText (statementOf (a .weights) (shown a)) (length (parts (a .weights) (shown a))) (lastLessFirst (days a) (shown a .readings))
 
 -- a refusal with its place, or what the account that the file names comes to
 abbrev pub textOf : Fault → List ℕ → List ℕ

@@ -7,10 +7,10 @@ use native.Mathlib.Numerals.{add-one}
 use native.Mathlib.Omega.{arith}
 use lib.ListN.{length, replicate}
 use borrow.Author.Tests.{ne-eqb, eq-eqb, lt-ltb, le-ltb}
-use Rattle.account.specs.Below.{howMany}
+use Rattle.common.specs.Below.{howMany}
 use Rattle.account.specs.Account.{Account, days, shown, unfit, sound}
 use Rattle.account.specs.Slices.{Checked, readsAt}
-use Rattle.profile.specs.Rows.{row}
+use Rattle.common.specs.Rows.{row}
 use Rattle.account.specs.Refusals.{accountRows}
 use Rattle.account.proofs.Rows as rows
 use Rattle.statement.specs.Parts.{Outputs}

@@ -6,10 +6,10 @@ use Prim.Native.Nat.{ℕ, suc, _+_, _≤_, _<_}
 use native.Mathlib.Numerals.{add-one}
 use native.Mathlib.Omega.{arith}
 use lib.ListN.{getD}
-use Rattle.account.specs.Below.{howMany, last}
+use Rattle.common.specs.Below.{howMany, last}
 use Rattle.account.specs.Account.{Account, days, shown}
 use Rattle.account.specs.Slices.{Checked, Fit}
-use Rattle.account.proofs.Below.{IsFirst, IsLast, clash, found, first-is, last-is}
+use Rattle.common.proofs.Below.{IsFirst, IsLast, clash, found, first-is, last-is}
 use Rattle.statement.specs.declared.Progress.{Progress}
 use Rattle.statement.specs.Parts.{Outputs}
 use Rattle.statement.specs.Progress.{NextReading, Interval, Written, Fillable, Filled}

@@ -7,13 +7,13 @@ use native.Mathlib.Nat.{mul-le-mul-right}
 use native.Mathlib.Omega.{arith}
 use lib.ListN.{length, getD}
 use Rattle.profile.specs.Limits.{spanMost, weightMost}
-use Rattle.account.specs.Below.{last}
+use Rattle.common.specs.Below.{last}
 use Rattle.account.specs.Account.{Account, days, shown}
 use Rattle.account.specs.Slices.{Checked}
-use Rattle.account.proofs.Below.{IsLast, first-least, last-found, last-most}
+use Rattle.common.proofs.Below.{IsLast, first-least, last-found, last-most}
 use Rattle.account.proofs.Sound.{mark-most}
 use Rattle.statement.specs.declared.Progress.{Progress}
-use Rattle.statement.specs.Split.{weightSum, shareOf, between, has}
+use Rattle.statement.specs.Split.{weightSum, roundedShare, between, has}
 use Rattle.statement.specs.Parts.{Outputs, marked}
 use Rattle.statement.specs.Shares.{Adjacent}
 use Rattle.statement.specs.Progress.{Interval, Written, Splittable, Summable, Addable, withPart, nextPart}
@@ -110,7 +110,7 @@ module _ {a : Account} {p q low e z k zk : ℕ} {o : Outputs} {d : Progress} (h 
       }
 
   -- what a boundary before q has
-  count-is : k < q → (v : ℕ) → v ≡ low + shareOf e zk z → v ≡ has (a .weights) (shown a .readings) k
+  count-is : k < q → (v : ℕ) → v ≡ low + roundedShare e zk z → v ≡ has (a .weights) (shown a .readings) k
   unfolding between
   count-is less v is =
       is ∙ rw (h .energy, h .starts, h .sum, h .share) (sym (has-between (a .weights) (shown a .readings) valid p q (h .adjacent) (h .inside) k (omega (arith, h .after)) (h .upto)))
@@ -158,10 +158,10 @@ module _ {a : Account} {p q low e z k zk : ℕ} {o : Outputs} {d : Progress} (h 
       Within a p q low e z (k + 1) (zk + getD (a .weights) k 0) o′ d′
   within-bare less bare same-o same-d = next less _ _ (written-same (written-none (a .weights) (shown a) k o d (h .written) (rw bare)) same-o same-d)
 
-  pub within-addable : k < q → (v : ℕ) → v ≡ low + shareOf e zk z → Addable o d k v
+  pub within-addable : k < q → (v : ℕ) → v ≡ low + roundedShare e zk z → Addable o d k v
   within-addable less v is = addable v (count-is less v is)
 
-  pub within-cut : {o′ : Outputs} {d′ : Progress} → k < q → (getD (a .marks) k 0 ≡ 0 → ⊥) → (v : ℕ) → v ≡ low + shareOf e zk z →
+  pub within-cut : {o′ : Outputs} {d′ : Progress} → k < q → (getD (a .marks) k 0 ≡ 0 → ⊥) → (v : ℕ) → v ≡ low + roundedShare e zk z →
       o′ ≡ withPart o d k v → d′ ≡ nextPart d k v → Within a p q low e z (k + 1) (zk + getD (a .weights) k 0) o′ d′
   within-cut less some v is same-o same-d =
       let here = mark-counts (getD (a .marks) k 0) (mark-most a (checked-sound a (h .checked)) k (omega (arith, h .inside))) some in

@@ -7,7 +7,7 @@ use native.Mathlib.Omega.{arith}
 use Rattle.account.specs.Stands.{Readings, neverFalling, lastLessFirst, firstReading, lastReading}
 use Rattle.account.specs.Account.{Account, shown, marksReading, marksCut}
 use Rattle.account.specs.Slices.{Checked, Fit}
-use Rattle.account.proofs.Below.{first-found, last-found, first-least, last-most}
+use Rattle.common.proofs.Below.{first-found, last-found, first-least, last-most}
 use Rattle.account.proofs.Pairs.{pairs}
 use Rattle.account.proofs.Sound.{Sound, fit, sound-parts}
 use Rattle.statement.proofs.Order.{valid-of-sound}

@@ -12,7 +12,7 @@ use borrow.Author.Tests.{le-leb}
 use Rattle.profile.specs.Limits.{weightMost}
 use Rattle.account.specs.Account.{goodWeights}
 use Rattle.account.proofs.Sound.{weight-good}
-use Rattle.statement.specs.Split.{weightSum, shareOf}
+use Rattle.statement.specs.Split.{weightSum, roundedShare}
 use Rattle.statement.proofs.Has.{share-all, share-mono}
 
 module _ (w : List ℕ) where
@@ -29,5 +29,5 @@ module _ (w : List ℕ) where
       go rest true = omega (arith, weight-good w good d h .1)
       go rest false = omega arith
 
-pub share-most : (e zk z : ℕ) → 0 < z → zk ≤ z → shareOf e zk z ≤ e
+pub share-most : (e zk z : ℕ) → 0 < z → zk ≤ z → roundedShare e zk z ≤ e
 share-most e zk z pos h = omega (arith, share-mono e zk z z h, share-all e z pos)

@@ -8,12 +8,12 @@ use native.Mathlib.Numerals.{add-one}
 use native.Mathlib.Omega.{arith}
 use lib.ListN.{length, set, replicate, length-append, length-replicate, length-map}
 use lib.Seq.{set-append-seam}
-use Rattle.account.specs.Below.{last}
+use Rattle.common.specs.Below.{last}
 use Rattle.account.specs.Stands.{Stands, firstReading, lastReading}
 use Rattle.statement.specs.declared.Progress.{Progress}
 use Rattle.statement.specs.Split.{has}
-use Rattle.profile.specs.Rows.{filled}
-use Rattle.statement.specs.Parts.{Part, Outputs, outputs, marked, partTo, partsBelow, parts, written}
+use Rattle.common.specs.Rows.{filled}
+use Rattle.statement.specs.Parts.{Part, Outputs, outputs, marked, partTo, partsBelow, partsOf, written}
 use Rattle.statement.proofs.Has.{has-reading}
 use Rattle.statement.proofs.Parts.{Ends, is-end, below-part, below-none, none-until, none-more, parts-fit}
 use Rattle.statement.specs.Progress.{Written, Addable, withPart, nextPart}
@@ -117,7 +117,7 @@ module _ (w : List ℕ) (s : Stands) where
 
   -- at the last reading all is written
   pub written-last : (p : ℕ) (o : Outputs) (d : Progress) → Written w s (p + 1) o d → lastReading (length w) (s .readings) ≡ p → p ≤ length w →
-      (o ≡ written (length w) (parts w s)) × (d .parts ≡ length (parts w s))
+      (o ≡ written (length w) (partsOf w s)) × (d .parts ≡ length (partsOf w s))
   written-last p o d h is within =
       let same = none-more w s p is within ∙ ap (partsBelow w s) (sym (add-one p)) in
       (h .holds ∙ ap (written (length w)) (sym same), h .parts ∙ ap length (sym same))

@@ -4,15 +4,16 @@
 use mathlib.Core.Path.{_≡_, refl}
 use mathlib.Core.Bool.{true}
 use mathlib.Core.List.{List}
-use Prim.Native.Nat.{ℕ, zero, suc, _-_, _≤_, _<_}
+use Prim.Native.Nat.{ℕ, zero, suc, _-_, _*_, _≤_, _<_}
 use native.Mathlib.Omega.{arith}
 use lib.ListN.{length, getD}
 use borrow.Author.Tests.{le-leb}
-use Rattle.account.specs.Below.{last}
+use Rattle.rounding.specs.Nearest.{nearest}
+use Rattle.common.specs.Below.{last}
 use Rattle.account.specs.Stands.{Stands, firstReading, lastReading, lastLessFirst}
-use Rattle.account.proofs.Below.{first-least, last-found, last-most}
-use Rattle.statement.specs.Split.{weightSum, shareOf, between, earlier, later}
-use Rattle.statement.specs.Parts.{Outputs, marked, parts, statementOf}
+use Rattle.common.proofs.Below.{first-least, last-found, last-most}
+use Rattle.statement.specs.Split.{weightSum, roundedShare, between, earlier, later}
+use Rattle.statement.specs.Parts.{Outputs, marked, partsOf, statementOf}
 use Rattle.statement.specs.Shares.{Adjacent, Shared, total, energy}
 use Rattle.statement.specs.Facts.{Valid, SumsUp, SharesClose, SameEnergy}
 use Rattle.statement.proofs.Order.{read, some-read}
@@ -46,8 +47,8 @@ sums-up w s valid two =
     let inside = each-written w s (λ from to wh. (f ≤ from) × (to ≤ l)) (λ k ends. (starts k (ends .after), ends .upto)) in
     omega (
       arith,
-      total-energy (statementOf w s) f l (length (parts w s)) inside,
-      energy-written f l n (parts w s),
+      total-energy (statementOf w s) f l (length (partsOf w s)) inside,
+      energy-written f l n (partsOf w s),
       telescopes w s is valid f l mark-f mark-l (omega arith) f≤l (omega arith),
       has-reading w r f (is .first .holds),
       has-reading w r l (is .last .holds),
@@ -71,8 +72,8 @@ shared w s valid two =
 module _ (w : List ℕ) (s : Stands) (valid : Valid w (s .readings)) where
   -- the energy between a reading and a marked boundary is the boundary's share of what the next reading has more
   pub energy-is : (p q b : ℕ) → Adjacent (s .readings .at) p q → q ≤ length w → p ≤ b → b ≤ q → marked s b ≡ true →
-      energy (statementOf w s) p b (length (parts w s)) ≡
-      shareOf (s .readings .count q - s .readings .count p) (weightSum w p b) (weightSum w p q)
+      energy (statementOf w s) p b (length (partsOf w s)) ≡
+      roundedShare (s .readings .count q - s .readings .count p) (weightSum w p b) (weightSum w p q)
   unfolding between
   energy-is p q b a inside low high mark =
       let r = s .readings in
@@ -82,11 +83,17 @@ module _ (w : List ℕ) (s : Stands) (valid : Valid w (s .readings)) where
       let upto = last-most (r .at) (is .last) (omega arith) (a .at-q) in
       omega (
         arith,
-        energy-written p b (length w) (parts w s),
+        energy-written p b (length w) (partsOf w s),
         telescopes w s is valid p b mark-p mark from low (omega arith),
         has-reading w r p (a .at-p),
         has-between w r valid p q a inside b low high,
       )
+
+  pub energy-nearest : (p q b : ℕ) → Adjacent (s .readings .at) p q → q ≤ length w → p ≤ b → b ≤ q → marked s b ≡ true →
+      energy (statementOf w s) p b (length (partsOf w s)) ≡
+      nearest ((s .readings .count q - s .readings .count p) * weightSum w p b) (weightSum w p q)
+  unfolding roundedShare
+  energy-nearest = energy-is
 
 pub same-energy : SameEnergy
 same-energy w s t valid-s fair-t p q b adj-s adj-t same-p same-q inside low high mark-s mark-t =

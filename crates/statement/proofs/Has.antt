@@ -1,5 +1,5 @@
 -- What a boundary has (Account and its calls, "Statement"): at a reading its count, and from reading to reading one formula, both ends
--- included. It never falls, and depends only on the two enclosing readings, their counts and the weights between. Assumes nothing.
+-- included. It never falls. Assumes nothing.
 use mathlib.Core.Path.{_≡_, sym, _∙_}
 use mathlib.Core.Bool.{true}
 use mathlib.Core.List.{List}
@@ -10,22 +10,22 @@ use native.Mathlib.Omega.{arith}
 use lib.ListN.{length}
 use Rattle.rounding.proofs.Laws.{nearest-multiple, nearest-mono}
 use Rattle.account.specs.Stands.{Readings}
-use Rattle.statement.specs.Split.{weightSum, shareOf, between, has}
+use Rattle.statement.specs.Split.{weightSum, roundedShare, between, has}
 use Rattle.statement.specs.Shares.{Adjacent}
-use Rattle.statement.specs.Facts.{Valid, HasRule, EnclosedOnly}
+use Rattle.statement.specs.Facts.{Valid, HasRule}
 use Rattle.statement.proofs.Order.{LiesBetween, earlier-is, later-is, adjacent-rise}
-use Rattle.statement.proofs.Sums.{sum-empty, sum-splits, sum-positive, sum-same}
+use Rattle.statement.proofs.Sums.{sum-empty, sum-splits, sum-positive}
 
-share-none : (e z : ℕ) → 0 < z → shareOf e 0 z ≡ 0
-unfolding shareOf
+share-none : (e z : ℕ) → 0 < z → roundedShare e 0 z ≡ 0
+unfolding roundedShare
 share-none e z pos = let same : e * 0 ≡ 0 * z = omega arith in rw same (nearest-multiple 0 z pos)
 
-pub share-all : (e z : ℕ) → 0 < z → shareOf e z z ≡ e
-unfolding shareOf
+pub share-all : (e z : ℕ) → 0 < z → roundedShare e z z ≡ e
+unfolding roundedShare
 share-all e z pos = nearest-multiple e z pos
 
-pub share-mono : (e x y z : ℕ) → x ≤ y → shareOf e x z ≤ shareOf e y z
-unfolding shareOf
+pub share-mono : (e x y z : ℕ) → x ≤ y → roundedShare e x z ≤ roundedShare e y z
+unfolding roundedShare
 share-mono e x y z h = nearest-mono (e * x) (e * y) z (mul-le-mul-left e h)
 
 pub has-reading : (w : List ℕ) (r : Readings) (k : ℕ) → r .at k ≡ true → has w r k ≡ r .count k
@@ -41,7 +41,7 @@ strictly w r p q a inside k low high =
     rw (a .none-between k low high, earlier-is (length w) r p q k e, later-is (length w) r p q k e)
 
 pub has-rule : HasRule
-unfolding between shareOf
+unfolding between roundedShare
 has-rule = record { between = λ w r p q k a inside low high. strictly w r p q a inside k low high; reading = has-reading }
 
 module _ (w : List ℕ) (r : Readings) (valid : Valid w r) (p q : ℕ) (a : Adjacent (r .at) p q) (inside : q ≤ length w) where
@@ -55,7 +55,7 @@ module _ (w : List ℕ) (r : Readings) (valid : Valid w r) (p q : ℕ) (a : Adja
   at-start : between w r p q p ≡ r .count p
   unfolding between
   at-start =
-      let none : shareOf (r .count q - r .count p) (weightSum w p p) (weightSum w p q) ≡ 0 =
+      let none : roundedShare (r .count q - r .count p) (weightSum w p p) (weightSum w p q) ≡ 0 =
       rw (sum-empty w p p (omega arith)) (share-none _ _ whole) in
       omega arith
 
@@ -73,15 +73,3 @@ module _ (w : List ℕ) (r : Readings) (valid : Valid w r) (p q : ℕ) (a : Adja
       let more : weightSum w p j ≤ weightSum w p k = omega (arith, sum-splits w p j k low le) in
       rw (has-between j low (omega arith), has-between k (omega arith) high)
       (omega (arith, share-mono (r .count q - r .count p) _ _ (weightSum w p q) more))
-
-pub has-only : EnclosedOnly
-unfolding between
-has-only v w r s valid-r valid-s p q adj-r adj-s in-v in-w same-p same-q same k low high =
-    rw (
-      has-between v r valid-r p q adj-r in-v k low high,
-      has-between w s valid-s p q adj-s in-w k low high,
-      same-p,
-      same-q,
-      sum-same v w p q same,
-      sum-same v w p k (λ d lo hi. same d lo (omega arith)),
-    )

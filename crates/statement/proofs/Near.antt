@@ -8,7 +8,7 @@ use lib.ListN.{length}
 use Rattle.rounding.specs.Nearest.{nearest, IsNearest}
 use Rattle.rounding.proofs.Laws.{nearest-is}
 use Rattle.account.specs.Stands.{Readings}
-use Rattle.statement.specs.Split.{weightSum, shareOf, between, has}
+use Rattle.statement.specs.Split.{weightSum, roundedShare, between, has}
 use Rattle.statement.specs.Shares.{Adjacent, NearShare}
 use Rattle.statement.specs.Facts.{Valid}
 use Rattle.statement.proofs.Sums.{sum-splits, sum-positive}
@@ -20,7 +20,7 @@ differ e x y z m d one other = (omega arith, omega arith)
 
 pub near : (w : List ℕ) (r : Readings) → Valid w r → (p q : ℕ) → Adjacent (r .at) p q → q ≤ length w →
     (f t : ℕ) → p ≤ f → f ≤ t → t ≤ q → NearShare w r p q f t (has w r t - has w r f)
-unfolding between shareOf
+unfolding between roundedShare
 near w r valid p q a inside f t low le high =
     let e : ℕ = r .count q - r .count p in
     let z : ℕ = weightSum w p q in

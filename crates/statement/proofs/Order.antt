@@ -7,10 +7,10 @@ use native.Mathlib.Omega.{arith}
 use lib.Dec.{leb}
 use lib.ListN.{length}
 use borrow.Author.Tests.{le-leb, leb-true}
-use Rattle.account.specs.Below.{howMany}
+use Rattle.common.specs.Below.{howMany}
 use Rattle.account.specs.Stands.{Readings, firstReading, lastReading}
 use Rattle.account.specs.Account.{Account, shown, sound}
-use Rattle.account.proofs.Below.{IsFirst, IsLast, found, both, clash, refuted, first-found, first-is, last-found, last-is}
+use Rattle.common.proofs.Below.{IsFirst, IsLast, found, both, clash, refuted, first-found, first-is, last-found, last-is}
 use Rattle.account.proofs.Pairs.{pairs}
 use Rattle.account.proofs.Sound.{sound-parts}
 use Rattle.statement.specs.Split.{earlier, later}

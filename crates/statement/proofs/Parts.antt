@@ -13,9 +13,9 @@ use lib.ListN.{length, getD, take, length-append, length-map, List·getD-append,
 use lib.Seq.{getD-at, take-suc, take-length}
 use borrow.Author.Tests.{ltb-true, leb-true, lt-ltb, le-leb, lt-leb}
 use Rattle.account.specs.Stands.{Stands, firstReading, lastReading}
-use Rattle.account.proofs.Below.{clash, refuted}
-use Rattle.profile.specs.Rows.{filled}
-use Rattle.statement.specs.Parts.{Part, marked, endsPart, partTo, partsBelow, parts, written, statementOf}
+use Rattle.common.proofs.Below.{clash, refuted}
+use Rattle.common.specs.Rows.{filled}
+use Rattle.statement.specs.Parts.{Part, marked, endsPart, partTo, partsBelow, partsOf, written, statementOf}
 use Rattle.statement.specs.Shares.{energy}
 
 needed : (b : Bool) → (b ≡ false → ⊥) → b ≡ true
@@ -150,10 +150,10 @@ written-at f n ps i h = List·getD-append (map f ps) _ (f noPart) i (rw length-m
 
 -- what holds of the part to each boundary where one ends holds of each part as written
 pub each-written : (w : List ℕ) (s : Stands) (P : ℕ → ℕ → ℕ → Type 0) →
-    ((k : ℕ) → Ends w s k → P (partTo w s k .from) (partTo w s k .to) (partTo w s k .wh)) → (i : ℕ) → i < length (parts w s) →
+    ((k : ℕ) → Ends w s k → P (partTo w s k .from) (partTo w s k .to) (partTo w s k .wh)) → (i : ℕ) → i < length (partsOf w s) →
     P (getD (statementOf w s .from) i 0) (getD (statementOf w s .to) i 0) (getD (statementOf w s .wh) i 0)
 each-written w s P all i h =
-    let ps : List Part = parts w s in
+    let ps : List Part = partsOf w s in
     let n : ℕ = length w in
     rw (written-at (λ x. x .from) n ps i h, written-at (λ x. x .to) n ps i h, written-at (λ x. x .wh) n ps i h)
     (each-part w s (λ x. P (x .from) (x .to) (x .wh)) all (suc n) noPart i h)

@@ -8,10 +8,10 @@ use native.Mathlib.Decide.{le-ind}
 use native.Mathlib.Omega.{arith}
 use lib.ListN.{length, getD, length-append}
 use borrow.Author.Tests.{le-leb, lt-leb, lt-ltb}
-use Rattle.account.specs.Below.{howMany, last}
+use Rattle.common.specs.Below.{howMany, last}
 use Rattle.account.specs.Stands.{Stands, firstReading, lastReading}
-use Rattle.account.proofs.Below.{first-least, last-found, last-most, last-here, last-below}
-use Rattle.statement.specs.Parts.{Part, marked, endsPart, partTo, partsBelow, parts}
+use Rattle.common.proofs.Below.{first-least, last-found, last-most, last-here, last-below}
+use Rattle.statement.specs.Parts.{Part, marked, endsPart, partTo, partsBelow, partsOf}
 use Rattle.statement.specs.Shares.{Adjacent}
 use Rattle.statement.specs.Facts.{boundsPart, PartsSuccessive}
 use Rattle.statement.proofs.Order.{Read, some-read}
@@ -91,7 +91,7 @@ module _ (w : List ℕ) (s : Stands) (read : Read (length w) (s .readings)) wher
           go so-far false e = rw (below-none w s m (rw e), last-below (marked s) refl e) so-far
 
   -- so all of them run from the first reading to the last
-  runs-all : Runs f (parts w s) l
+  runs-all : Runs f (partsOf w s) l
   runs-all =
       let mark-l : marked s l ≡ true = rw (read .last .holds) in
       rw (none-more w s l refl (omega (arith, read .last .below))) (rw (last-here (marked s) refl mark-l) at (runs (suc l) (omega (arith, f≤l)) (omega arith)))
@@ -129,7 +129,7 @@ module _ (w : List ℕ) (s : Stands) (read : Read (length w) (s .readings)) wher
 pub successive : PartsSuccessive
 successive w s two =
     let n : ℕ = length w in
-    let ps : List Part = parts w s in
+    let ps : List Part = partsOf w s in
     let is = some-read n (s .readings) two in
     let run = runs-all w s is in
     let number = counted w s is (suc n) (omega (arith, is .first .below)) in

@@ -1,4 +1,4 @@
--- The sums of day weights (Account and its calls, "Statement"): empty, split at a boundary, above 0, and fixed by the days between.
+-- The sums of day weights (Account and its calls, "Statement"): empty, split at a boundary, above 0.
 -- Assumes nothing.
 use mathlib.Core.Path.{_≡_, refl}
 use mathlib.Core.Bool.{Bool, true, false}
@@ -11,7 +11,7 @@ use lib.Dec.{leb}
 use lib.ListN.{length, getD}
 use borrow.Author.Tests.{le-leb, lt-leb, leb-true, leb-false}
 use Rattle.account.specs.Account.{goodWeight, goodWeights}
-use Rattle.account.proofs.Below.{both, every-at}
+use Rattle.common.proofs.Below.{both, every-at}
 use Rattle.statement.specs.Split.{weightSum}
 
 pub weight-positive : (w : List ℕ) → goodWeights w ≡ true → (d : ℕ) → d < length w → 0 < getD w d 0
@@ -41,15 +41,3 @@ module _ (w : List ℕ) where
   pub sum-positive : ((d : ℕ) → d < length w → 0 < getD w d 0) → (p q : ℕ) → p < q → q ≤ length w → 0 < weightSum w p q
   sum-positive positive p zero h fits = omega arith
   sum-positive positive p (suc d) h fits = omega (arith, sum-suc p d (omega arith), positive d fits)
-
-pub sum-same : (v w : List ℕ) (p q : ℕ) → ((d : ℕ) → p ≤ d → d < q → getD v d 0 ≡ getD w d 0) → weightSum v p q ≡ weightSum w p q
-sum-same v w p zero same = omega (arith, sum-empty v p zero (omega arith), sum-empty w p zero (omega arith))
-sum-same v w p (suc d) same = go (sum-same v w p d (λ j lo hi. same j lo (omega arith))) (leb p d) refl
-  where
-    go : weightSum v p d ≡ weightSum w p d → (b : Bool) → leb p d ≡ b → weightSum v p (suc d) ≡ weightSum w p (suc d)
-    go rest true e =
-        let h = leb-true p d e in
-        omega (arith, sum-suc v p d h, sum-suc w p d h, same d h (omega arith))
-    go rest false e =
-        let h = leb-false p d e in
-        omega (arith, sum-empty v p (suc d) h, sum-empty w p (suc d) h)

@@ -7,11 +7,11 @@ use Prim.Native.Nat.{ℕ, zero, suc, _+_, _≤_, _<_}
 use native.Mathlib.Nat.{eq-or-lt-of-le}
 use native.Mathlib.Omega.{arith}
 use lib.ListN.{length}
-use Rattle.account.specs.Below.{last}
+use Rattle.common.specs.Below.{last}
 use Rattle.account.specs.Stands.{Stands, firstReading, lastReading}
-use Rattle.account.proofs.Below.{clash, last-found, last-most}
+use Rattle.common.proofs.Below.{clash, last-found, last-most}
 use Rattle.statement.specs.Split.{earlier, later, has}
-use Rattle.statement.specs.Parts.{marked, partTo, partsBelow, parts}
+use Rattle.statement.specs.Parts.{marked, partTo, partsBelow, partsOf}
 use Rattle.statement.specs.Facts.{Valid}
 use Rattle.statement.proofs.Order.{Read, LiesBetween, enclosed}
 use Rattle.statement.proofs.Has.{has-mono}
@@ -77,7 +77,7 @@ module _ (w : List ℕ) (s : Stands) (read : Read (length w) (s .readings)) wher
       within (suc m) lo hi =
           ⊎-elim (start (suc m)) (λ lt. step (suc m) lt hi (within m (omega arith) (omega arith))) (eq-or-lt-of-le lo)
 
-      pub telescopes : energyOf a b (parts w s) + has w (s .readings) a ≡ has w (s .readings) b
+      pub telescopes : energyOf a b (partsOf w s) + has w (s .readings) a ≡ has w (s .readings) b
       unfolding last
       telescopes =
           let up : b ≤ length w = omega (arith, read .last .below) in

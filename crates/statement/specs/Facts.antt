@@ -8,10 +8,10 @@ use mathlib.Core.List.{List}
 use lib.Dec.{leb}
 use lib.ListN.{length, getD}
 use Rattle.rounding.specs.Nearest.{nearest}
-use Rattle.account.specs.Below.{howMany}
+use Rattle.common.specs.Below.{howMany}
 use Rattle.account.specs.Stands.{Stands, Readings, neverFalling, firstReading, lastReading, lastLessFirst}
 use Rattle.statement.specs.Split.{weightSum, has}
-use Rattle.statement.specs.Parts.{Outputs, marked, parts, statementOf}
+use Rattle.statement.specs.Parts.{Outputs, marked, partsOf, statementOf}
 use Rattle.statement.specs.Shares.{Adjacent, Shared, total, energy}
 
 -- all that the facts ask of the weights and of the readings that stand
@@ -29,13 +29,6 @@ pub record HasRule : Type 0 where
   pub between : (w : List ℕ) (r : Readings) (p q k : ℕ) → Adjacent (r .at) p q → q ≤ length w → p < k → k < q →
       has w r k ≡ r .count p + nearest ((r .count q - r .count p) * weightSum w p k) (weightSum w p q)
   pub reading : (w : List ℕ) (r : Readings) (k : ℕ) → r .at k ≡ true → has w r k ≡ r .count k
-
--- What a boundary has depends only on its two enclosing readings, their counts and the weights between. (proofs/Has, `has-only`)
-abbrev pub EnclosedOnly : Type 0
-EnclosedOnly =
-    (v w : List ℕ) (r s : Readings) → Valid v r → Valid w s → (p q : ℕ) → Adjacent (r .at) p q → Adjacent (s .at) p q →
-    q ≤ length v → q ≤ length w → r .count p ≡ s .count p → r .count q ≡ s .count q →
-    ((d : ℕ) → p ≤ d → d < q → getD v d 0 ≡ getD w d 0) → (k : ℕ) → p ≤ k → k ≤ q → has v r k ≡ has w s k
 
 -- a boundary at which a part starts or ends: it is marked, and lies from the first reading to the last
 abbrev pub boundsPart : ℕ → Stands → ℕ → Bool
@@ -58,18 +51,18 @@ pub record Successive (n : ℕ) (s : Stands) (o : Outputs) (m : ℕ) : Type 0 wh
 
 -- The parts of every statement are successive. (proofs/Successive, `successive`)
 abbrev pub PartsSuccessive : Type 0
-PartsSuccessive = (w : List ℕ) (s : Stands) → TwoReadings w s → Successive (length w) s (statementOf w s) (length (parts w s))
+PartsSuccessive = (w : List ℕ) (s : Stands) → TwoReadings w s → Successive (length w) s (statementOf w s) (length (partsOf w s))
 
 -- "Its parts add up exactly to the last standing reading less the first." (`sums-up`)
 abbrev pub SumsUp : Type 0
 SumsUp =
     (w : List ℕ) (s : Stands) → Valid w (s .readings) → TwoReadings w s →
-    total (statementOf w s) (length (parts w s)) ≡ lastLessFirst (length w) (s .readings)
+    total (statementOf w s) (length (partsOf w s)) ≡ lastLessFirst (length w) (s .readings)
 
 -- "Each part is less than 1 Wh from its exact share between its two enclosing readings." (`shared`)
 abbrev pub SharesClose : Type 0
 SharesClose =
-    (w : List ℕ) (s : Stands) → Valid w (s .readings) → TwoReadings w s → (i : ℕ) → i < length (parts w s) →
+    (w : List ℕ) (s : Stands) → Valid w (s .readings) → TwoReadings w s → (i : ℕ) → i < length (partsOf w s) →
     Shared w (s .readings) (getD (statementOf w s .from) i 0) (getD (statementOf w s .to) i 0) (getD (statementOf w s .wh) i 0)
 
 -- "Where the same two adjacent readings with the same counts enclose a marked boundary in two statements .., the energy between the
@@ -80,4 +73,4 @@ SameEnergy =
     Adjacent (s .readings .at) p q → Adjacent (t .readings .at) p q →
     s .readings .count p ≡ t .readings .count p → s .readings .count q ≡ t .readings .count q → q ≤ length w →
     p ≤ b → b ≤ q → marked s b ≡ true → marked t b ≡ true →
-    energy (statementOf w s) p b (length (parts w s)) ≡ energy (statementOf w t) p b (length (parts w t))
+    energy (statementOf w s) p b (length (partsOf w s)) ≡ energy (statementOf w t) p b (length (partsOf w t))

@@ -6,8 +6,8 @@ use mathlib.Core.List.{List, [], _∷_, _++_, map}
 use lib.Dec.{leb, ltb}
 use lib.ListN.{length}
 use denote.Ref.{RefT, now}
-use Rattle.profile.specs.Rows.{filled}
-use Rattle.account.specs.Below.{last}
+use Rattle.common.specs.Rows.{filled}
+use Rattle.common.specs.Below.{last}
 use Rattle.account.specs.Stands.{Stands, firstReading, lastReading}
 use Rattle.statement.specs.Split.{has}
 
@@ -38,8 +38,9 @@ unfoldable pub partsBelow : List ℕ → Stands → ℕ → List Part
 partsBelow w s zero = []
 partsBelow w s (suc m) = partsBelow w s m ++ cond (endsPart w s m) (partTo w s m ∷ []) []
 
-abbrev pub parts : List ℕ → Stands → List Part
-parts w s = partsBelow w s (suc (length w))
+-- all parts of a statement
+abbrev pub partsOf : List ℕ → Stands → List Part
+partsOf w s = partsBelow w s (suc (length w))
 
 -- It writes from, to and Wh "into slices of length n, zero past the parts".
 pub record Outputs : Type 0 where
@@ -63,4 +64,4 @@ written n ps =
 
 -- the slices of a statement given, over these weights and what stands
 abbrev pub statementOf : List ℕ → Stands → Outputs
-statementOf w s = written (length w) (parts w s)
+statementOf w s = written (length w) (partsOf w s)

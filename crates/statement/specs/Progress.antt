@@ -5,13 +5,13 @@ use mathlib.Core.Bool.{true, false}
 use mathlib.Core.List.{List, []}
 use lib.ListN.{length, getD, set}
 use Rattle.profile.specs.Limits.{spanMost, weightMost}
-use Rattle.account.specs.Below.{howMany, last}
+use Rattle.common.specs.Below.{howMany, last}
 use Rattle.account.specs.Stands.{Stands}
 use Rattle.account.specs.Account.{Account, days, shown, marksReading, goodWeights, energyMost}
 use Rattle.account.specs.Slices.{Checked}
 use Rattle.statement.specs.declared.Progress.{Progress}
 use Rattle.statement.specs.Split.{has}
-use Rattle.statement.specs.Parts.{Outputs, outputs, marked, partsBelow, parts, written}
+use Rattle.statement.specs.Parts.{Outputs, outputs, marked, partsBelow, partsOf, written}
 use Rattle.statement.specs.Shares.{Adjacent}
 
 -- r is the first reading at or after boundary k, and past the last boundary where there is none
@@ -58,8 +58,8 @@ pub record Fillable (a : Account) (o : Outputs) : Type 0 where
 
 -- the outputs hold every part, and m is their number
 pub record Filled (a : Account) (o : Outputs) (m : ℕ) : Type 0 where
-  pub holds : o ≡ written (days a) (parts (a .weights) (shown a))
-  pub how-many : m ≡ length (parts (a .weights) (shown a))
+  pub holds : o ≡ written (days a) (partsOf (a .weights) (shown a))
+  pub how-many : m ≡ length (partsOf (a .weights) (shown a))
 
 -- a part can be added: there is room for it, its boundaries fit 16 bits, and its end has at least what its start has
 pub record Addable (o : Outputs) (d : Progress) (end count : ℕ) : Type 0 where

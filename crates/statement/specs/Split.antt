@@ -7,7 +7,7 @@ use mathlib.Core.List.{List}
 use lib.Dec.{leb}
 use lib.ListN.{length, getD}
 use Rattle.rounding.specs.Nearest.{nearest}
-use Rattle.account.specs.Below.{first, last}
+use Rattle.common.specs.Below.{first, last}
 use Rattle.account.specs.Stands.{Readings}
 
 -- the weights from day p to day k-1
@@ -16,8 +16,8 @@ weightSum w p zero = 0
 weightSum w p (suc d) = weightSum w p d + cond (leb p d) (getD w d 0) 0
 
 -- how a statement rounds E × Zk / Z
-unfoldable pub shareOf : ℕ → ℕ → ℕ → ℕ
-shareOf e zk z = nearest (e * zk) z
+unfoldable pub roundedShare : ℕ → ℕ → ℕ → ℕ
+roundedShare e zk z = nearest (e * zk) z
 
 -- the adjacent readings between which boundary k lies, where it has none itself: the last before it, and the first at it or after it
 abbrev pub earlier : Readings → ℕ → ℕ
@@ -28,7 +28,7 @@ later n r k = first (λ j. leb k j && r .at j) (suc n)
 
 -- what boundary k has between the readings at p and q
 unfoldable pub between : List ℕ → Readings → ℕ → ℕ → ℕ → ℕ
-between w r p q k = r .count p + shareOf (r .count q - r .count p) (weightSum w p k) (weightSum w p q)
+between w r p q k = r .count p + roundedShare (r .count q - r .count p) (weightSum w p k) (weightSum w p q)
 
 -- what boundary k has
 unfoldable pub has : List ℕ → Readings → ℕ → ℕ

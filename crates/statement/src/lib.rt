@@ -1,15 +1,14 @@
 // The statement (Account and its calls, "Statement"): each weight is added at most twice, for Z and for Zk.
-mod clear;
 mod readings;
 
-use clear::clear_boundaries;
-use clear::clear_energies;
+use common::clear_u16;
+use common::clear_u64;
 use readings::count_readings;
 use readings::next_reading;
 ghost use mathlib.Core.Path.{_≡_};
 ghost use Prim.Native.Nat.{_+_};
 ghost use Rattle.account.specs.Account.{accountIn, shown};
-ghost use Rattle.statement.specs.Split.{weightSum, shareOf};
+ghost use Rattle.statement.specs.Split.{weightSum, roundedShare};
 ghost use Rattle.statement.specs.Parts.{outputsIn};
 ghost use Rattle.statement.specs.Call.{number, partCount, StatementMet};
 ghost use Rattle.statement.specs.Progress.{Summable, Splittable, Addable, withPart, nextPart, Interval, Written, Fillable, Filled};
@@ -57,9 +56,9 @@ pub fn statement(
     if refused != 0 {
         return StatementAnswer::Unsound;
     }
-    clear_boundaries(from);
-    clear_boundaries(to);
-    clear_energies(wh);
+    clear_u16(from);
+    clear_u16(to);
+    clear_u64(wh);
     if count_readings(marks) < 2 {
         return StatementAnswer::TooFewReadings;
     }
@@ -84,7 +83,7 @@ fn weight_sum(weights: &[u32], p: usize, q: usize) -> u64
 // What a cut has between two readings: the earlier reading's count `low`, and its share of the energy e between them.
 fn cut_count(low: u64, e: u64, zk: u64, z: u64) -> u64
     requires { ⌜ Splittable low e zk z ⌝ }
-    ensures { λ r. ⌜ r ≡ low + shareOf e zk z ⌝ }
+    ensures { λ r. ⌜ r ≡ low + roundedShare e zk z ⌝ }
 {
     low + rounding::nearest_of(e * zk, z)
 }

@@ -1,16 +1,10 @@
 // Readings as the marks show them (Account and its calls). Every function is total.
+use account::is_reading;
 ghost use mathlib.Core.Path.{_≡_};
 ghost use lib.ListN.{length};
-ghost use Rattle.account.specs.Below.{howMany};
-ghost use Rattle.account.specs.Account.{marksReading};
+ghost use Rattle.common.specs.Below.{howMany};
 ghost use Rattle.account.specs.Slices.{readsAt};
 ghost use Rattle.statement.specs.Progress.{NextReading};
-
-fn is_reading(mark: u8) -> bool
-    ensures { λ r. ⌜ r ≡ marksReading mark ⌝ }
-{
-    mark == 2 || mark == 3
-}
 
 // The first reading at or after boundary k; past the last boundary where there is none.
 pub(crate) fn next_reading(marks: &[u8], k: usize) -> usize

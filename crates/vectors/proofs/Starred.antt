@@ -8,16 +8,15 @@ use Rattle.power.specs.Power.{one, powerLow, powerHigh, pLow, pHigh}
 use Rattle.power.proofs.AtMostOne.{power-one}
 use Rattle.power.proofs.Laws.{low-one, high-one}
 use Rattle.profile.specs.Limits.{inRange}
-use Rattle.profile.specs.Coefficients.{sumOf}
+use Rattle.common.specs.Lists.{listOf, sumOf}
 use Rattle.weights.specs.Temperature.{temperatureOf}
-use Rattle.weights.specs.Weights.{listOf}
 use Rattle.rounding.specs.Nearest.{nearest}
 use Rattle.customer.specs.Customer.{customerValue}
-use Rattle.account.specs.Below.{everywhere, somewhere, howMany, first, last}
+use Rattle.common.specs.Below.{everywhere, somewhere, howMany, first, last}
 use Rattle.account.specs.Stands.{neverFalling, lastLessFirst}
 use Rattle.account.specs.Account.{goodWeights, goodMarks, zeroCounts}
 use Rattle.account.specs.Refusals.{outOfOrder}
-use Rattle.statement.specs.Split.{weightSum, shareOf, between, has}
+use Rattle.statement.specs.Split.{weightSum, roundedShare, between, has}
 use Rattle.statement.specs.Parts.{partsBelow}
 use Rattle.vectors.specs.Starred.{Starred}
 
@@ -42,5 +41,5 @@ unfolding nearest
 of-sum w sum = rw sum
 
 pub starred : Starred
-unfolding inRange temperatureOf nearest everywhere somewhere howMany first last neverFalling lastLessFirst goodWeights goodMarks zeroCounts outOfOrder weightSum shareOf between has partsBelow sumOf listOf
+unfolding inRange temperatureOf nearest everywhere somewhere howMany first last neverFalling lastLessFirst goodWeights goodMarks zeroCounts outOfOrder weightSum roundedShare between has partsBelow sumOf listOf
 starred = (((refl, refl, refl), (refl, refl, refl), (refl, refl, refl)), (((refl, refl, refl), (refl, refl, refl), (refl, refl, refl), (refl, refl, refl), (refl, refl, refl)), ((low, high, low-whole, high-whole), ((refl, refl, refl), (((refl, refl, refl), (refl, refl, refl), (refl, refl, refl)), ((of-sum, refl, refl), ((refl, refl, refl, refl), ((refl, refl, refl), tt))))))))

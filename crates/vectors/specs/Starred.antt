@@ -1,6 +1,6 @@
 -- Starred cases (Buyer's note: "The starred cases form a joint table, shown by a single fact about the rules"): the paper's starred
 -- lines in their order, a row for each, and in a row every answer of the line: what the rules give, and what the line says. The rules are
--- the right-hand sides of the calls' contracts. `Starred` is the fact (proofs/Starred, `starred`).
+-- definitions that the calls' contracts cite. `Starred` is the fact (proofs/Starred, `starred`).
 use mathlib.Core.Path.{_≡_}
 use mathlib.Core.List.{List, [], _∷_}
 use Prim.Native.Nat.{ℕ, zero, suc, _+_, _-_, _/_, _%_, _^_, _<_}
@@ -8,16 +8,15 @@ use lib.IntN.{ℤ, pos}
 use lib.ListN.{length, replicate}
 use Rattle.power.specs.Power.{one, powerLow, powerHigh, pLow, pHigh}
 use Rattle.profile.specs.Limits.{minus}
-use Rattle.profile.specs.Coefficients.{sumOf}
+use Rattle.common.specs.Lists.{listOf, sumOf}
 use Rattle.weights.specs.Temperature.{temperatureNumber, temperaturePlace, temperatureValue}
-use Rattle.weights.specs.Weights.{dayTemperature, listOf}
-use Rattle.account.specs.Account.{Account, account, days, shown}
+use Rattle.weights.specs.Weights.{dayTemperature}
+use Rattle.account.specs.Account.{Account, account, days}
 use Rattle.account.specs.Refusals.{openNumber, readingNumber, cutNumber}
-use Rattle.profile.specs.Rows.{ifDone}
+use Rattle.common.specs.Rows.{ifDone}
 use Rattle.account.specs.Calls.{cleared, readingPut, cutPut}
-use Rattle.statement.specs.Parts.{Outputs, outputs, parts, statementOf}
-use Rattle.statement.specs.Call as statement
-use Rattle.statement.specs.Call.{statementNumber}
+use Rattle.statement.specs.Parts.{Outputs, outputs}
+use Rattle.statement.specs.Call.{Ruling, ruling}
 use Rattle.customer.specs.Customer.{customerValue, customerNumber, dailyAmount, amountNumber}
 
 -- each line of a table holds
@@ -59,8 +58,8 @@ metered energy w = reading (cuts (reading (opened w) 0 0) (length w - 1)) (lengt
 abbrev lent : Account → Outputs
 lent a = outputs (replicate (days a) 9) (replicate (days a) 9) (replicate (days a) 9)
 
-abbrev stated : Account → Outputs
-stated a = statement.outputsAfter (statementNumber a (lent a)) (statementOf (a .weights) (shown a)) (lent a)
+abbrev stated : Account → Ruling
+stated a = ruling a (lent a)
 
 -- m boundaries, one after the other from k on
 abbrev upFrom : ℕ → ℕ → List ℕ
@@ -69,9 +68,9 @@ upFrom k = listOf (λ i. k + i)
 -- the statement of this account is given: a part for each day, from its start to its end, and with these Wh
 abbrev Daily : Account → List ℕ → Type 0
 Daily a wh =
-    (statementNumber a (lent a) ≡ 0) ×
-    (length (parts (a .weights) (shown a)) ≡ days a) ×
-    (stated a ≡ outputs (upFrom 0 (days a)) (upFrom 1 (days a)) wh)
+    (stated a .number ≡ 0) ×
+    (stated a .parts ≡ days a) ×
+    (stated a .memory ≡ outputs (upFrom 0 (days a)) (upFrom 1 (days a)) wh)
 
 -- this energy over these weights is split into these Wh
 abbrev Split : ℕ → List ℕ → List ℕ → Type 0

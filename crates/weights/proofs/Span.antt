@@ -1,34 +1,15 @@
 -- The weights of a span (Temperature of a day): how many they are, and the weight of day k. Assumes nothing.
-use mathlib.Core.Path.{_≡_, refl, _∙_, ap}
-use mathlib.Core.List.{List, [], _∷_, _++_}
-use Prim.Native.Nat.{ℕ, zero, suc, _-_, _<_}
-use native.Mathlib.Decide.{decLt}
-use native.Mathlib.Omega.{arith}
-use native.Mathlib.Numerals.{add-one}
+use mathlib.Core.Path.{_≡_}
+use mathlib.Core.List.{List}
+use Prim.Native.Nat.{ℕ, _-_, _<_}
 use lib.IntN.{ℤ}
-use lib.ListN.{length, getD, length-append, List·getD-append}
-use lib.Seq.{getD-at}
-use Rattle.weights.specs.Weights.{listOf, dayWeight, weightsOf}
-
-pub listOf-length : {A : Type 0} (f : ℕ → A) (n : ℕ) → length (listOf f n) ≡ n
-unfolding listOf
-listOf-length f zero = refl
-listOf-length f (suc n) = length-append (listOf f n) (f n ∷ []) ∙ add-one _ ∙ ap suc (listOf-length f n)
+use lib.ListN.{length, getD}
+use Rattle.common.proofs.Lists.{listOf-length, listOf-at}
+use Rattle.weights.specs.Weights.{dayWeight, weightsOf}
 
 pub weights-length : (profile weekday : ℕ) (means : List ℤ) → length (weightsOf profile weekday means) ≡ length means - 3
 unfolding weightsOf
 weights-length profile weekday means = listOf-length _ _
-
-pub listOf-at : (f : ℕ → ℕ) (n i : ℕ) → i < n → getD (listOf f n) i 0 ≡ f i
-unfolding listOf
-listOf-at f zero i h = absurd (omega arith)
-listOf-at f (suc n) i h = go (listOf-at f n i) (decLt i n)
-  where
-    go : (i < n → getD (listOf f n) i 0 ≡ f i) → Dec (i < n) → getD (listOf f n ++ (f n ∷ [])) i 0 ≡ f i
-    go before (yes l) = List·getD-append (listOf f n) (f n ∷ []) 0 i (omega (arith, listOf-length f n)) ∙ before l
-    go before (no g) =
-        let e : i ≡ n = omega arith in
-        rw e (getD-at (listOf f n) (f n) [] 0 n (listOf-length f n))
 
 pub weights-at : (profile weekday : ℕ) (means : List ℤ) (k : ℕ) → k < length means - 3 → getD (weightsOf profile weekday means) k 0 ≡ dayWeight profile weekday means k
 unfolding weightsOf

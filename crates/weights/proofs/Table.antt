@@ -11,7 +11,7 @@ use lib.ListN.{length, getD}
 use Rattle.profile.specs.Limits.{profileCount, spanMost, weightLeast, weightMost}
 use Rattle.profile.proofs.Bounds.{whole-table}
 use Rattle.weights.specs.Means.{firstOut}
-use Rattle.profile.specs.Rows.{zeros}
+use Rattle.common.specs.Rows.{zeros}
 use Rattle.weights.specs.Weights.{dayTemperature, weightsOf, unfit, Ready, WeightsMet}
 use Rattle.weights.proofs.Raised.{temperature-in-range}
 use Rattle.weights.proofs.Series.{all-in}

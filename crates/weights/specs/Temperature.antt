@@ -7,7 +7,7 @@ use Prim.Native.Nat.{ℕ}
 use lib.IntN.{ℤ, pos, _+ℤ_, _*ℤ_}
 use Rattle.rounding.specs.Integers.{nearestℤ}
 use Rattle.profile.specs.Limits.{inRange}
-use Rattle.profile.specs.Rows.{row, ifDone}
+use Rattle.common.specs.Rows.{row, ifDone}
 use Rattle.weights.specs.Means.{firstOut, someOut}
 use Rattle.weights.specs.declared.TemperatureAnswer.{TemperatureAnswer}
 use Rattle.weights.specs.declared.TemperatureAnswer.the-variants.{Temperature, OutOfRange}

@@ -2,14 +2,15 @@
 -- n being "the number of means less three"; rows 1, 2 and 4 say "outputs zero", row 3 "untouched".
 use mathlib.Core.Path.{_≡_}
 use mathlib.Core.Bool.{Bool, false, not, _||_}
-use mathlib.Core.List.{List, [], _∷_, _++_}
-use Prim.Native.Nat.{ℕ, zero, suc, _+_, _-_, _%_, _≤_, _<_}
+use mathlib.Core.List.{List}
+use Prim.Native.Nat.{ℕ, _+_, _-_, _%_, _≤_, _<_}
 use lib.Dec.{leb, ltb, eqb}
 use lib.IntN.{ℤ, pos}
 use lib.ListN.{length, getD}
-use Rattle.profile.specs.Limits.{profileCount, spanMost, badSpan, weightLeast, weightMost}
+use Rattle.profile.specs.Limits.{profileCount, spanLeast, spanMost, badSpan, weightLeast, weightMost}
 use Rattle.profile.specs.Weight.{weightOf}
-use Rattle.profile.specs.Rows.{row, zeros}
+use Rattle.common.specs.Rows.{row, zeros}
+use Rattle.common.specs.Lists.{listOf}
 use Rattle.weights.specs.Means.{firstOut, someOut}
 use Rattle.weights.specs.Temperature.{temperatureOf}
 use Rattle.weights.specs.declared.WeightsAnswer.{WeightsAnswer}
@@ -24,11 +25,6 @@ dayTemperature means k = temperatureOf (meanAt means (k + 3)) (meanAt means (k +
 
 abbrev pub dayWeight : ℕ → ℕ → List ℤ → ℕ → ℕ
 dayWeight profile weekday means k = weightOf profile ((weekday + k) % 7) (dayTemperature means k)
-
--- f 0, f 1, .., f (n - 1)
-unfoldable pub listOf : {A : Type 0} → (ℕ → A) → ℕ → List A
-listOf f zero = []
-listOf f (suc n) = listOf f n ++ (f n ∷ [])
 
 -- the weights of the days of a span, day 0 being a weekday of Monday 0 to Sunday 6
 unfoldable pub weightsOf : ℕ → ℕ → List ℤ → List ℕ
@@ -69,7 +65,7 @@ place (OutOfRange k) = k
 
 -- weights that an account takes: as many as a span has days, "every weight that the table can give is 1 to 6,999,999"
 pub record Bounded (weights : List ℕ) : Type 0 where
-  pub least : 1 ≤ length weights
+  pub least : spanLeast ≤ length weights
   pub most : length weights ≤ spanMost
   pub each : (k : ℕ) → k < length weights → (weightLeast ≤ getD weights k 0) × (getD weights k 0 ≤ weightMost)
 

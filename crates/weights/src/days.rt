@@ -7,18 +7,7 @@ ghost use lib.ListN.{length};
 ghost use Rattle.profile.specs.Limits.{inRange, profileCount};
 ghost use Rattle.profile.specs.Weight.{weightOf};
 ghost use Rattle.weights.specs.Means.{someOut};
-ghost use Rattle.profile.specs.Rows.{zeros};
 ghost use Rattle.weights.specs.Weights.{dayTemperature, weightsOf, Ready};
-
-pub(crate) fn clear(out: &mut [u32])
-    ensures { λ r. ⌜ now (out .exit) ≡ zeros (now (out .entry)) ⌝ }
-{
-    let mut i = 0;
-    while i < out.len() {
-        out[i] = 0;
-        i += 1;
-    }
-}
 
 // Writes the weight of each day; the weekday is that of day 0.
 pub(crate) fn fill(profile: u8, weekday: u8, means: &[i16], out: &mut [u32])

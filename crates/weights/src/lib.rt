@@ -2,6 +2,7 @@
 mod days;
 mod means;
 
+use common::clear_u32;
 use profile::Profile;
 ghost use Rattle.weights.specs.Temperature.{TemperatureMet};
 ghost use Rattle.weights.specs.Temperature as temperatures;
@@ -48,10 +49,10 @@ pub fn temperature(a: i16, b: i16, c: i16, d: i16) -> TemperatureAnswer
 pub fn choose<'a>(measured: &'a [i16], forecast: &'a [i16], n: usize) -> &'a [i16]
     ensures { λ r. ⌜ ChooseMet (measured .entry) (forecast .entry) n r (now (measured .exit)) (now (forecast .exit)) ⌝ }
 {
-    if n < 1 {
+    if n < Profile::SPAN_LEAST {
         return &measured[..0];
     }
-    if Profile::SPAN < n {
+    if Profile::SPAN_MOST < n {
         return &measured[..0];
     }
     if means::serves(measured, n + 3) {
@@ -67,27 +68,27 @@ pub fn choose<'a>(measured: &'a [i16], forecast: &'a [i16], n: usize) -> &'a [i1
 pub fn weights(profile: u8, weekday: u8, means: &[i16], out: &mut [u32]) -> WeightsAnswer
     ensures { λ r. ⌜ WeightsMet profile weekday (now (means .entry)) (now (out .entry)) (spans.number r) (spans.place r) (now (out .exit)) (now (means .exit)) ⌝ }
 {
-    if means.len() < 4 {
+    if means.len() < Profile::SPAN_LEAST + 3 {
         return WeightsAnswer::Unfit;
     }
     let n = means.len() - 3;
-    if n > Profile::SPAN {
+    if n > Profile::SPAN_MOST {
         return WeightsAnswer::Unfit;
     }
     if out.len() != n {
         return WeightsAnswer::Unfit;
     }
     if Profile::COUNT <= profile {
-        days::clear(out);
+        clear_u32(out);
         return WeightsAnswer::NoProfile;
     }
     if 6 < weekday {
-        days::clear(out);
+        clear_u32(out);
         return WeightsAnswer::NoWeekday;
     }
     let first = means::first_out(means);
     if first < means.len() {
-        days::clear(out);
+        clear_u32(out);
         return WeightsAnswer::OutOfRange(first);
     }
     days::fill(profile, weekday, means, out);

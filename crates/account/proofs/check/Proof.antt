@@ -2,8 +2,9 @@
 use Prim.Native.Nat.{ℕ}
 use mathlib.Core.Path.{_≡_, refl, sym, _∙_}
 use mathlib.Core.Bool.{true, false}
+use native.Mathlib.Numerals.{add-one}
 use borrow.Author.Tests.{not-true, not-false}
-use Rattle.account.specs.Account.{Account, account, unfit, goodWeights, energyMost}
+use Rattle.account.specs.Account.{Account, account, days, unfit, goodWeights, energyMost}
 use Rattle.account.specs.Refusals.{accountRows}
 use Rattle.account.specs.Calls.{CheckMet}
 use Rattle.account.specs.Slices.{goodBoundaries}
@@ -62,7 +63,7 @@ returns-4 c =
     let fitting = fits (c .before .before .before .before .before .before) in
     tells a _
     (unsound-rows a 0 fitting
-    (energy-unsound a (fit a fitting) _ (c .before .last-less-first .ensures) (weights-good (c .before .before .before .before)) (boundaries-good (c .before .before)) (c .if4 .taken)))
+    (energy-unsound a _ (c .before .last-less-first .ensures (days a) (fit a fitting .marks ∙ add-one (days a))) (weights-good (c .before .before .before .before)) (boundaries-good (c .before .before)) (c .if4 .taken)))
 
 returns-5 : tie.Need-returns-5
 returns-5 c =
@@ -70,7 +71,7 @@ returns-5 c =
     let fitting = fits (c .before .before .before .before .before .before) in
     tells a _
     (sound-rows a 0 fitting
-    (all-sound a (fit a fitting) _ (c .before .last-less-first .ensures) (weights-good (c .before .before .before .before)) (boundaries-good (c .before .before)) (c .if4 .left)))
+    (all-sound a _ (c .before .last-less-first .ensures (days a) (fit a fitting .marks ∙ add-one (days a))) (weights-good (c .before .before .before .before)) (boundaries-good (c .before .before)) (c .if4 .left)))
 
 pub check-spec : {M : Type 1} → statement M
 check-spec =

@@ -9,10 +9,10 @@ use borrow.Author.Needs.{needs}
 use borrow.Author.Tests.{le-leb, lt-leb}
 use lib.ListN.{length, getD}
 use Rattle.profile.specs.Limits.{weightLeast, weightMost}
-use Rattle.account.specs.Below.{everywhere}
+use Rattle.common.specs.Below.{everywhere}
 use Rattle.account.specs.Account.{goodWeight, goodWeights}
 use Rattle.account.specs.Calls.{GoodWeightsMet}
-use Rattle.account.proofs.Below.{every-zero, every-more, every-fails}
+use Rattle.common.proofs.Below.{every-zero, every-more, every-fails}
 use Rattle.account.proofs.good_weights.Statement.{statement}
 use Rattle.account.proofs.good_weights.Tie as tie
 

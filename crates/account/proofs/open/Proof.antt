@@ -46,11 +46,11 @@ returns-2 c =
     let is = five a (fits (c .before .before)) (sym (c .before .good-weights .ensures .gives) ∙ not-true _ (c .if2 .taken)) in
     record { answers = is; leaves = leaves-refused _ _ _ (λ (e : openNumber a ≡ 0). omega (arith, is ∙ e)) }
 
-clear-marks-requires : tie.Need-clear-marks-requires
-clear-marks-requires c κs = tt
+clear-u8-requires : tie.Need-clear-u8-requires
+clear-u8-requires c κs = tt
 
-clear-counts-requires : tie.Need-clear-counts-requires
-clear-counts-requires c κs = tt
+clear-u64-requires : tie.Need-clear-u64-requires
+clear-u64-requires c κs = tt
 
 same-length : tie.Need-same-length
 same-length c = search needs
@@ -68,8 +68,8 @@ returns-3 c =
       leaves =
           leaves-done _ _ _ _ (sym is)
           (ap₂ (λ (m n : List ℕ). account (start .args .weights .now) m n)
-          (c .before .before .before .before .before .before .clear-marks .ensures)
-          (c .before .before .clear-counts .ensures));
+          (c .before .before .before .before .before .before .clear-u8 .ensures)
+          (c .before .before .clear-u64 .ensures));
     }
 
 pub open-spec : {M : Type 1} → statement M
@@ -80,8 +80,8 @@ open-spec =
     returns
     good-weights-requires
     returns-2
-    clear-marks-requires
-    clear-counts-requires
+    clear-u8-requires
+    clear-u64-requires
     same-length
     same-length-2
     returns-3)

@@ -8,25 +8,25 @@ use borrow.Author.Tests.{le-leb, lt-leb, lt-ltb, le-ltb, not-true, not-false}
 use lib.Dec.{ltb}
 use lib.ListN.{length}
 use Rattle.rounding.specs.Nearest.{nearest}
-use Rattle.profile.specs.Limits.{spanMost, badSpan}
+use Rattle.profile.specs.Limits.{spanLeast, spanMost, badSpan}
 use Rattle.account.specs.Account.{goodWeights}
 use Rattle.customer.specs.Customer.{customerValue, valueMost}
 use borrow.Author.Needs.{needs}
 use Rattle.customer.proofs.customer_value.Statement.{statement}
 use Rattle.customer.proofs.customer_value.Tie as tie
 
-spanned : (w : List ℕ) → (length w ≡ 0 → ⊥) → length w ≤ spanMost → badSpan (length w) ≡ false
-spanned w some-days most = simp (le-leb 1 (length w) (omega arith), le-leb (length w) spanMost most)
+spanned : (w : List ℕ) → spanLeast ≤ length w → length w ≤ spanMost → badSpan (length w) ≡ false
+spanned w least most = simp (le-leb spanLeast (length w) least, le-leb (length w) spanMost most)
 
 returns : tie.Need-returns
 returns c =
-    let short = lt-leb 1 (length (c .before .before .args .weights .now)) (omega (arith, c .if1 .taken)) in
+    let short = lt-leb spanLeast (length (c .before .before .args .weights .now)) (c .if1 .taken) in
     record { answers = simp short; gives = simp short; stays = refl }
 
 returns-2 : tie.Need-returns-2
 returns-2 c =
     let n = length (c .before .before .before .args .weights .now) in
-    let some-days = le-leb 1 n (omega (arith, c .before .if1 .left)) in
+    let some-days = le-leb spanLeast n (c .before .if1 .left) in
     let long = lt-leb n spanMost (c .if2 .taken) in
     record { answers = simp (some-days, long); gives = simp (some-days, long); stays = refl }
 

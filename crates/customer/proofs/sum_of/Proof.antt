@@ -8,7 +8,7 @@ use borrow.Author.Needs.{needs}
 use native.Mathlib.Numerals.{add-one}
 use lib.ListN.{length, getD, drop, drop-of-length-le}
 use lib.Seq.{drop-cons}
-use Rattle.profile.specs.Coefficients.{sumOf}
+use Rattle.common.specs.Lists.{sumOf}
 use Rattle.customer.proofs.sum_of.Statement.{statement}
 use Rattle.customer.proofs.sum_of.Tie as tie
 

@@ -1,8 +1,7 @@
 -- `layout::account_text` meets its contract (Case file). Assumes nothing.
 use mathlib.Core.Path.{refl}
-use native.Mathlib.Omega.{arith}
 use Rattle.account.specs.Account.{account}
-use Rattle.layout.proofs.Texts.{refusal-says, too-long}
+use Rattle.layout.proofs.Texts.{too-long}
 use borrow.Author.Needs.{needs}
 use Rattle.layout.proofs.account_text.Statement.{statement}
 use Rattle.layout.proofs.account_text.Tie as tie
@@ -17,7 +16,7 @@ returns : tie.Need-returns
 returns c =
     let a = c .before .before .before .before .before .before .before .before .before .args in
     let b = account (a .weights .now) (a .marks .now) (a .counts .now) in
-    let says = refusal-says b 3 (too-long b (c .before .before .before .before .if1 .taken)) (λ e. omega arith) in
+    let says = too-long b (c .before .before .before .before .if1 .taken) in
     (rw says (record { prints = c .before .before .refusal-text .ensures; stays = refl }), refl)
 
 slice-aggregate-with-outputs : tie.Need-slice-aggregate-with-outputs

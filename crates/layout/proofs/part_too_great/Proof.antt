@@ -6,9 +6,9 @@ use native.Mathlib.Omega.{arith}
 use borrow.Author.Tests.{lt-ltb, le-ltb}
 use lib.Dec.{ltb}
 use lib.ListN.{getD}
-use Rattle.account.specs.Below.{somewhere}
+use Rattle.common.specs.Below.{somewhere}
 use Rattle.account.specs.Account.{energyMost}
-use Rattle.account.proofs.Below.{some-zero, some-at}
+use Rattle.common.proofs.Below.{some-zero, some-at}
 use Rattle.layout.proofs.Sums.{some-more}
 use Rattle.layout.proofs.part_too_great.Statement.{statement}
 use Rattle.layout.proofs.part_too_great.Tie as tie

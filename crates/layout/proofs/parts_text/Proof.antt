@@ -36,12 +36,14 @@ returns c =
     let body = sum .before .before .before .before .before in
     let first = body .before .before .before .before in
     let word = first .before .before .before .before in
-    let a = word .before .before .before .before .before .before .before .args in
-    then-both (decimal (a .sum)) lineFeed
+    let start = word .before .before .before .before .before .before .before in
+    let laid =
+    then-both (decimal (start .args .sum)) lineFeed
     (then-laid
-    (then-laid (then-both (decimal (a .parts)) lineFeed (word .word .ensures) (first .number .ensures .0)) (body .lines .ensures .0))
+    (then-laid (then-both (decimal (start .args .parts)) lineFeed (word .word .ensures) (first .number .ensures .0)) (body .lines .ensures .0))
     (sum .word2 .ensures))
-    (second .number2 .ensures .0)
+    (second .number2 .ensures .0) in
+    rw (start .pre .1) at laid
 
 pub parts-text-spec : {M : Type 1} → statement M
 parts-text-spec =

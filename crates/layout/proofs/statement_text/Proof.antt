@@ -6,7 +6,7 @@ use borrow.Author.Tests.{lt-ltb, le-ltb, eq-eqb, ne-eqb}
 use lib.Dec.{ltb}
 use lib.ListN.{length, getD}
 use Rattle.profile.specs.Limits.{spanMost}
-use Rattle.account.specs.Below.{somewhere}
+use Rattle.common.specs.Below.{somewhere}
 use Rattle.account.specs.Account.{energyMost}
 use Rattle.statement.specs.Parts.{outputs}
 use Rattle.layout.specs.Text.{noStatement}
@@ -66,7 +66,9 @@ total-requires : tie.Need-total-requires
 total-requires c κs = (search needs, search needs, sym (c .before .part-too-great .ensures) ∙ c .if6 .left)
 
 parts-text-requires : tie.Need-parts-text-requires
-parts-text-requires c κs = search needs
+parts-text-requires c κs =
+    let a = c .before .before .before .before .before .before .before .before .before .before .before .before .before .args in
+    (search needs, c .before .total .ensures (a .from .now) (a .to .now))
 
 same-length : tie.Need-same-length
 same-length c = search needs
@@ -75,12 +77,10 @@ returns-7 : tie.Need-returns-7
 returns-7 c =
     let a = c .before .before .before .before .before .before .before .before .before .before .before .before .before .before .before .before .args in
     let text = c .before .before .parts-text in
-    let sum = c .before .before .before .before .total in
-    given-laid (outputs (a .from .now) (a .to .now) (a .wh .now)) (a .parts) (sum .result) _ _ _
+    given-laid (outputs (a .from .now) (a .to .now) (a .wh .now)) (a .parts) _ _ _
     (in-order (a .from .now) (a .to .now) (a .wh .now) (a .parts) (c .before .before .before .before .before .before .before .before .before .before .before .if1 .left) (c .before .before .before .before .before .before .before .before .before .before .if2 .left) (c .before .before .before .before .before .before .before .before .before .if3 .left) (c .before .before .before .before .before .before .before .before .if4 .left) (c .before .before .before .before .before .before .before .if5 .left) ∙
     sym (c .before .before .before .before .before .before .part-too-great .ensures) ∙
     c .before .before .before .before .before .if6 .left)
-    (sum .ensures (a .from .now) (a .to .now))
     (text .ensures)
 
 pub statement-text-spec : {M : Type 1} → statement M

@@ -4,7 +4,7 @@ use mathlib.Core.Path.{_≡_, sym}
 use mathlib.Core.List.{List}
 use native.Mathlib.Omega.{arith}
 use borrow.Author.Tests.{ltb-false}
-use Rattle.account.proofs.Below.{none-at}
+use Rattle.common.proofs.Below.{none-at}
 use Rattle.account.specs.Account.{energyMost}
 use lib.Dec.{ltb}
 use lib.ListN.{getD}

@@ -1,12 +1,12 @@
 -- `profile::day_weight` meets its contract (Profiles): its tests are those of the rows, in their order; the range is that of the whole table.
 -- Assumes nothing.
-use mathlib.Core.Path.{_≡_, refl, sym, ap, _∙_}
+use mathlib.Core.Path.{_≡_, refl, sym, _∙_}
 use Prim.Native.Nat.{ℕ, suc}
 use native.Mathlib.Omega.{arith}
 use borrow.Author.Needs.{needs}
 use borrow.Author.Tests.{le-leb, lt-leb, lt-ltb, le-ltb}
 use lib.Dec.{eqb·suc-zero}
-use lib.IntN.{ℤ, pos}
+use lib.IntN.{ℤ}
 use mir.Facts.{toZ-ofZ}
 use Rattle.profile.specs.Limits.{inRange}
 use Rattle.profile.specs.Answers.{weightNumber, weightAnswered, weightPlaced, weightGiven, WeightMet}
@@ -28,7 +28,7 @@ declined {k} {w} {t} r n e f p g =
     record {
       answers = f ∙ sym e;
       places = p;
-      gives = rw (e, eqb·suc-zero n) (ap pos g);
+      gives = rw (e, eqb·suc-zero n) g;
       least = rw e (λ z. absurd (omega arith));
       most = rw e (λ z. absurd (omega arith));
     }
@@ -67,7 +67,7 @@ returns-3 c =
     record {
       answers = simp (lt-leb _ _ profile, le-ltb _ _ weekday, range);
       places = refl;
-      gives = simp (lt-leb _ _ profile, le-ltb _ _ weekday, range) (rw e (sym (known .0)));
+      gives = simp (lt-leb _ _ profile, le-ltb _ _ weekday, range) e;
       least = λ z. rw e (known .1);
       most = λ z. rw e (known .2);
     }

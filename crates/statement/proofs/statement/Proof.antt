@@ -2,7 +2,7 @@
 use mathlib.Core.Path.{_≡_, _∙_}
 use Prim.Native.Nat.{suc}
 use native.Mathlib.Omega.{arith}
-use Rattle.account.specs.Below.{howMany}
+use Rattle.common.specs.Below.{howMany}
 use Rattle.account.specs.Account.{Account, account, days, shown}
 use Rattle.account.specs.Slices.{Checked}
 use Rattle.statement.specs.Parts.{Outputs, outputs}
@@ -36,8 +36,8 @@ readings : (c : tie.After-count-readings) → c .count-readings .result ≡ howM
 readings c = counted _ (sound (clear c)) _ (c .count-readings .ensures)
 
 cleared : (c : tie.After-count-readings) →
-    outputs (c .before .before .before .before .before .before .before .before .before .before .before .clear-boundaries .last .0) (c .before .before .before .before .before .before .before .clear-boundaries2 .last .0) (c .before .before .before .clear-energies .last .0) ≡ zeroed (given (start (clear c .before .before .before)))
-cleared c = outputs-same (c .before .before .before .before .before .before .before .before .before .before .before .clear-boundaries .ensures) (c .before .before .before .before .before .before .before .clear-boundaries2 .ensures) (c .before .before .before .clear-energies .ensures)
+    outputs (c .before .before .before .before .before .before .before .before .before .before .before .clear-u16 .last .0) (c .before .before .before .before .before .before .before .clear-u162 .last .0) (c .before .before .before .clear-u64 .last .0) ≡ zeroed (given (start (clear c .before .before .before)))
+cleared c = outputs-same (c .before .before .before .before .before .before .before .before .before .before .before .clear-u16 .ensures) (c .before .before .before .before .before .before .before .clear-u162 .ensures) (c .before .before .before .clear-u64 .ensures)
 
 returns : tie.Need-returns
 returns c = met-from _ _ (c .if1 .taken)
@@ -57,26 +57,26 @@ returns-4 c = met-account _ _ _ (long (c .before .before)) (c .before .check .en
 returns-5 : tie.Need-returns-5
 returns-5 c = met-unsound _ _ _ (long (c .before .before .before)) (c .before .before .check .ensures .0 .answers) (c .before .if4 .left) (c .if5 .taken)
 
-clear-boundaries-requires : tie.Need-clear-boundaries-requires
-clear-boundaries-requires c κs = tt
+clear-u16-requires : tie.Need-clear-u16-requires
+clear-u16-requires c κs = tt
 
-clear-boundaries-requires-2 : tie.Need-clear-boundaries-requires-2
-clear-boundaries-requires-2 c κs = tt
+clear-u16-requires-2 : tie.Need-clear-u16-requires-2
+clear-u16-requires-2 c κs = tt
 
-clear-energies-requires : tie.Need-clear-energies-requires
-clear-energies-requires c κs = tt
+clear-u64-requires : tie.Need-clear-u64-requires
+clear-u64-requires c κs = tt
 
 count-readings-requires : tie.Need-count-readings-requires
 count-readings-requires c κs = tt
 
 same-length : tie.Need-same-length
-same-length c = c .before .before .before .before .before .before .before .before .before .before .before .before .clear-boundaries .kept .0
+same-length c = c .before .before .before .before .before .before .before .before .before .before .before .before .clear-u16 .kept .0
 
 same-length-2 : tie.Need-same-length-2
-same-length-2 c = c .before .before .before .before .before .before .before .before .clear-boundaries2 .kept .0
+same-length-2 c = c .before .before .before .before .before .before .before .before .clear-u162 .kept .0
 
 same-length-3 : tie.Need-same-length-3
-same-length-3 c = c .before .before .before .before .clear-energies .kept .0
+same-length-3 c = c .before .before .before .before .clear-u64 .kept .0
 
 returns-6 : tie.Need-returns-6
 returns-6 c =
@@ -92,19 +92,19 @@ same-length-4 : tie.Need-same-length-4
 same-length-4 c =
     let call = c .before .before .before .before .before .before in
     let at = call .before .before .before .before .before in
-    call .fill .kept .1 .1 .1 .0 ∙ at .before .before .before .before .before .before .before .before .before .before .before .clear-boundaries .kept .0
+    call .fill .kept .1 .1 .1 .0 ∙ at .before .before .before .before .before .before .before .before .before .before .before .clear-u16 .kept .0
 
 same-length-5 : tie.Need-same-length-5
 same-length-5 c =
     let call = c .before .before .before .before .before .before in
     let at = call .before .before .before .before .before in
-    call .fill .kept .1 .1 .1 .1 .0 ∙ at .before .before .before .before .before .before .before .clear-boundaries2 .kept .0
+    call .fill .kept .1 .1 .1 .1 .0 ∙ at .before .before .before .before .before .before .before .clear-u162 .kept .0
 
 same-length-6 : tie.Need-same-length-6
 same-length-6 c =
     let call = c .before .before .before .before .before .before in
     let at = call .before .before .before .before .before in
-    call .fill .kept .1 .1 .1 .1 .1 .0 ∙ at .before .before .before .clear-energies .kept .0
+    call .fill .kept .1 .1 .1 .1 .1 .0 ∙ at .before .before .before .clear-u64 .kept .0
 
 returns-7 : tie.Need-returns-7
 returns-7 c =
@@ -122,9 +122,9 @@ statement-spec =
     check-requires
     returns-4
     returns-5
-    clear-boundaries-requires
-    clear-boundaries-requires-2
-    clear-energies-requires
+    clear-u16-requires
+    clear-u16-requires-2
+    clear-u64-requires
     count-readings-requires
     same-length
     same-length-2

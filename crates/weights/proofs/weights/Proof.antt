@@ -19,6 +19,9 @@ ready c =
     let e = c .before .first-out .ensures in
     record { profile-known = omega arith; weekday-known = omega arith; means-in-range = le-ltb (firstOut m) (length m) (omega arith) }
 
+add-if1 : tie.Need-add-if1
+add-if1 c = search needs
+
 returns : tie.Need-returns
 returns c =
     let a = c .before .before .args in
@@ -37,17 +40,17 @@ returns-3 c =
     let a = c .before .before .before .before .args in
     unfit-met _ _ _ _ (other (a .means .now) (a .out .now) (c .before .before .if1 .left) (c .before .if2 .left) (c .if3 .taken))
 
-clear-requires : tie.Need-clear-requires
-clear-requires c κs = search needs
+clear-u32-requires : tie.Need-clear-u32-requires
+clear-u32-requires c κs = search needs
 
 same-length : tie.Need-same-length
 same-length c = search needs
 
 returns-4 : tie.Need-returns-4
-returns-4 c = profile-met _ _ _ _ _ (fitting (c .before .before .before .before .before)) (c .before .before .before .before .if4 .taken) (c .before .before .clear .ensures)
+returns-4 c = profile-met _ _ _ _ _ (fitting (c .before .before .before .before .before)) (c .before .before .before .before .if4 .taken) (c .before .before .clear-u32 .ensures)
 
-clear-requires-2 : tie.Need-clear-requires-2
-clear-requires-2 c κs = search needs
+clear-u32-requires-2 : tie.Need-clear-u32-requires-2
+clear-u32-requires-2 c κs = search needs
 
 same-length-2 : tie.Need-same-length-2
 same-length-2 c = search needs
@@ -57,13 +60,13 @@ returns-5 c =
     weekday-met _ _ _ _ _ (fitting (c .before .before .before .before .before .before))
     (c .before .before .before .before .before .if4 .left)
     (c .before .before .before .before .if5 .taken)
-    (c .before .before .clear2 .ensures)
+    (c .before .before .clear-u322 .ensures)
 
 first-out-requires : tie.Need-first-out-requires
 first-out-requires c κs = search needs
 
-clear-requires-3 : tie.Need-clear-requires-3
-clear-requires-3 c κs = search needs
+clear-u32-requires-3 : tie.Need-clear-u32-requires-3
+clear-u32-requires-3 c κs = search needs
 
 same-length-3 : tie.Need-same-length-3
 same-length-3 c = search needs
@@ -77,7 +80,7 @@ returns-6 c =
     _
     (at .before .first-out .ensures)
     (at .if6 .taken)
-    (c .before .before .clear3 .ensures)
+    (c .before .before .clear-u323 .ensures)
 
 fill-requires : tie.Need-fill-requires
 fill-requires c κs = (ready (c .before), omega arith)
@@ -94,18 +97,19 @@ pub weights-spec : {M : Type 1} → statement M
 weights-spec =
     tie.close
     (tie.spec
+    add-if1
     returns
     sub-n
     returns-2
     returns-3
-    clear-requires
+    clear-u32-requires
     same-length
     returns-4
-    clear-requires-2
+    clear-u32-requires-2
     same-length-2
     returns-5
     first-out-requires
-    clear-requires-3
+    clear-u32-requires-3
     same-length-3
     returns-6
     fill-requires

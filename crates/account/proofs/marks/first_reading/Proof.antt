@@ -5,9 +5,9 @@ use native.Mathlib.Omega.{arith}
 use mathlib.Core.Path.{_≡_, sym, _∙_}
 use mathlib.Core.Bool.{false}
 use lib.ListN.{length, getD}
-use Rattle.account.specs.Below.{somewhere}
+use Rattle.common.specs.Below.{somewhere}
 use Rattle.account.specs.Account.{marksReading}
-use Rattle.account.proofs.Below.{some-zero, some-none, first-at, first-none}
+use Rattle.common.proofs.Below.{some-zero, some-none, first-at, first-none}
 use Rattle.account.proofs.marks.first_reading.Statement.{statement}
 use Rattle.account.proofs.marks.first_reading.Tie as tie
 

@@ -1,7 +1,6 @@
 -- `account::marks::last_less_first` meets its contract (Account and its calls): the four calls' own contracts, put together. Assumes nothing.
-use lib.ListN.{length}
-use Rattle.account.specs.Slices.{readsAt, countAt}
-use Rattle.account.proofs.Spread.{spread-made}
+use Rattle.account.specs.Slices.{readingsIn}
+use Rattle.account.proofs.LastLessFirst.{last-less-first-is}
 use Rattle.account.proofs.marks.last_less_first.Statement.{statement}
 use Rattle.account.proofs.marks.last_less_first.Tie as tie
 
@@ -21,9 +20,9 @@ less-requires : tie.Need-less-requires
 less-requires c κs = tt
 
 returns : tie.Need-returns
-returns c =
+returns c n e =
     let a = c .before .before .before .before .before .before .before .args in
-    spread-made (readsAt (a .marks .now)) (countAt (a .counts .now)) (length (a .marks .now))
+    last-less-first-is n (readingsIn (a .marks .now) (a .counts .now)) e
     (c .before .before .before .before .last-reading .ensures)
     (c .before .before .before .count-at .ensures)
     (c .before .before .first-reading .ensures)

@@ -4,9 +4,9 @@ use Prim.Native.Nat.{_≤_}
 use native.Mathlib.Omega.{arith}
 use mathlib.Core.Path.{_≡_, refl, sym, ap, _∙_}
 use lib.ListN.{length, getD}
-use Rattle.account.specs.Below.{last}
+use Rattle.common.specs.Below.{last}
 use Rattle.account.specs.Account.{marksReading}
-use Rattle.account.proofs.Below.{last-zero, last-here, last-below}
+use Rattle.common.proofs.Below.{last-zero, last-here, last-below}
 use Rattle.account.proofs.marks.last_reading.Statement.{statement}
 use Rattle.account.proofs.marks.last_reading.Tie as tie
 

@@ -4,7 +4,7 @@ use mathlib.Core.Bool.{Bool}
 use native.Mathlib.Omega.{arith}
 use borrow.Author.Tests.{lt-ltb, le-ltb}
 use Rattle.account.specs.Account.{Account, account}
-use Rattle.profile.specs.Rows.{row}
+use Rattle.common.specs.Rows.{row}
 use Rattle.account.specs.Refusals.{accountRows}
 use Rattle.account.proofs.Rows.{rows-refuse, rows-pass, rows-through, checked}
 use Rattle.account.proofs.table.boundary_answer.Statement.{statement}

@@ -1,9 +1,7 @@
 -- `account::table::last_less_first_with` meets its contract (If a call declines): the five calls' own contracts, put together. Assumes nothing.
-use mathlib.Core.Bool.{true}
-use lib.ListN.{length}
-use Rattle.account.specs.Stands.{put}
-use Rattle.account.specs.Slices.{readsAt, countAt}
-use Rattle.account.proofs.Spread.{spread-made}
+use Rattle.account.specs.Stands.{withReading}
+use Rattle.account.specs.Slices.{readingsIn}
+use Rattle.account.proofs.LastLessFirst.{last-less-first-is}
 use Rattle.account.proofs.table.last_less_first_with.Statement.{statement}
 use Rattle.account.proofs.table.last_less_first_with.Tie as tie
 
@@ -23,9 +21,9 @@ less-requires : tie.Need-less-requires
 less-requires c κs = tt
 
 returns : tie.Need-returns
-returns c =
+returns c n e =
     let a = c .before .before .before .before .before .before .before .args in
-    spread-made (put (readsAt (a .marks .now)) (a .k) true) (put (countAt (a .counts .now)) (a .k) (a .v)) (length (a .marks .now))
+    last-less-first-is n (withReading (readingsIn (a .marks .now) (a .counts .now)) (a .k) (a .v)) e
     (c .before .before .before .before .last-reading-with .ensures)
     (c .before .before .before .count-with .ensures)
     (c .before .before .first-reading-with .ensures)

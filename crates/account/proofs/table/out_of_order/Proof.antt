@@ -5,11 +5,11 @@ use native.Mathlib.Omega.{arith}
 use mathlib.Core.Path.{_≡_, refl, sym, _∙_}
 use mathlib.Core.Bool.{Bool, true, false, _||_, or-true}
 use lib.ListN.{length}
-use Rattle.account.specs.Below.{somewhere}
+use Rattle.common.specs.Below.{somewhere}
 use Rattle.account.specs.Stands.{Readings}
 use Rattle.account.specs.Account.{account, shown}
 use Rattle.account.specs.Refusals.{belowEarlier, aboveLater, outOfOrder}
-use Rattle.account.proofs.Below.{neither, some-zero, some-none, some-at}
+use Rattle.common.proofs.Below.{neither, some-zero, some-none, some-at}
 use Rattle.account.proofs.table.out_of_order.Statement.{statement}
 use Rattle.account.proofs.table.out_of_order.Tie as tie
 

@@ -4,14 +4,13 @@ use native.Mathlib.Omega.{arith}
 use mathlib.Core.Path.{_≡_, sym, ap, _∙_}
 use mathlib.Core.Bool.{true, false}
 use borrow.Author.Tests.{lt-ltb, le-ltb}
-use lib.ListN.{length}
-use Rattle.account.specs.Stands.{put, withReading}
+use native.Mathlib.Numerals.{add-one}
+use Rattle.account.specs.Stands.{withReading, lastLessFirst}
 use Rattle.account.specs.Account.{Account, account, days, shown, marksReading, energyMost}
-use Rattle.profile.specs.Rows.{row}
+use Rattle.common.specs.Rows.{row}
 use Rattle.account.specs.Refusals.{outOfOrder, tooMuch}
-use Rattle.account.specs.Slices.{readsAt, countAt, spread, boundaryRows}
+use Rattle.account.specs.Slices.{readsAt, boundaryRows}
 use Rattle.account.proofs.Rows.{Allowed, allowed, boundary-refuses, boundary-through}
-use Rattle.account.proofs.Spread.{spread-is}
 use Rattle.account.proofs.table.reading_answer.Statement.{statement}
 use Rattle.account.proofs.table.reading_answer.Tie as tie
 
@@ -27,12 +26,12 @@ module _ (a : Account) (k v : ℕ) where
       eight : outOfOrder (days a) (shown a .readings) k v ≡ true → 8 ≡ boundaryRows a k rest
       eight e = rw (boundary-through a k rest h, e7, e)
 
-      module _ (e8 : outOfOrder (days a) (shown a .readings) k v ≡ false) (x : ℕ) (is : x ≡ spread (put (readsAt (a .marks)) k true) (put (countAt (a .counts)) k v) (length (a .marks))) where
+      module _ (e8 : outOfOrder (days a) (shown a .readings) k v ≡ false) (x : ℕ) (is : x ≡ lastLessFirst (days a) (withReading (shown a .readings) k v)) where
         nine : energyMost < x → 9 ≡ boundaryRows a k rest
-        nine l = rw (boundary-through a k rest h, e7, e8, ← (is ∙ spread-is a (h .fit) (withReading (shown a .readings) k v)), lt-ltb energyMost x l)
+        nine l = rw (boundary-through a k rest h, e7, e8, ← is, lt-ltb energyMost x l)
 
         none : x ≤ energyMost → 0 ≡ boundaryRows a k rest
-        none l = rw (boundary-through a k rest h, e7, e8, ← (is ∙ spread-is a (h .fit) (withReading (shown a .readings) k v)), le-ltb energyMost x l)
+        none l = rw (boundary-through a k rest h, e7, e8, ← is, le-ltb energyMost x l)
 
 abbrev lent : tie.Start → Account
 lent c = account (c .args .weights .now) (c .args .marks .now) (c .args .counts .now)
@@ -89,7 +88,7 @@ returns-4 c =
     (free (c .before .before .before .before))
     (sym (c .before .before .before .out-of-order .ensures) ∙ c .before .before .if3 .left)
     _
-    (c .before .last-less-first-with .ensures)
+    (c .before .last-less-first-with .ensures _ (allows (c .before .before .before .before .before .before .before) .fit .marks ∙ add-one _))
     (c .if4 .taken)
 
 returns-5 : tie.Need-returns-5
@@ -99,7 +98,7 @@ returns-5 c =
     (free (c .before .before .before .before))
     (sym (c .before .before .before .out-of-order .ensures) ∙ c .before .before .if3 .left)
     _
-    (c .before .last-less-first-with .ensures)
+    (c .before .last-less-first-with .ensures _ (allows (c .before .before .before .before .before .before .before) .fit .marks ∙ add-one _))
     (c .if4 .left)
 
 pub reading-answer-spec : {M : Type 1} → statement M

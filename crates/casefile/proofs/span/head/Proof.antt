@@ -67,6 +67,9 @@ counted c =
 number16-requires : tie.Need-number16-requires
 number16-requires c κs = search needs
 
+add-if6 : tie.Need-add-if6
+add-if6 c = search needs
+
 refused-requires-6 : tie.Need-refused-requires-6
 refused-requires-6 c κs = search needs
 
@@ -114,6 +117,7 @@ head-spec =
     refused-requires-5
     returns-5
     number16-requires
+    add-if6
     refused-requires-6
     returns-6
     add-if7

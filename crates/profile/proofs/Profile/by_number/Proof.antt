@@ -22,7 +22,7 @@ returns c =
         gives = sym (List·getD-eq-default table noProfile above);
         week = simp test (λ e. absurd (omega arith));
       },
-      (search needs, search needs),
+      (search needs, (search needs, search needs)),
     )
 
 profile-at-requires : tie.Need-profile-at-requires
@@ -36,7 +36,7 @@ returns-2 c =
         gives = c .profile-at .ensures;
         week = λ e. rw (c .profile-at .ensures) (profile-tested (c .before .before .args .number) (c .before .if1 .left) .week);
       },
-      (search needs, search needs),
+      (search needs, (search needs, search needs)),
     )
 
 pub by-number-spec : {M : Type 1} → statement M

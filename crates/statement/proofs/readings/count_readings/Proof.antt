@@ -4,7 +4,7 @@ use mathlib.Core.Logic.{⊎-elim}
 use Prim.Native.Nat.{ℕ, _+_, _-_, _≤_}
 use native.Mathlib.Omega.{arith}
 use lib.ListN.{length}
-use Rattle.account.specs.Below.{howMany}
+use Rattle.common.specs.Below.{howMany}
 use Rattle.account.specs.Slices.{readsAt}
 use Rattle.statement.proofs.CodeFill.{many-here, many-not}
 use Rattle.statement.proofs.readings.count_readings.Statement.{statement}

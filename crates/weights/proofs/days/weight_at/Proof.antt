@@ -6,7 +6,7 @@ use mathlib.Core.Path.{_≡_, sym, _∙_, ap}
 use mathlib.Core.Bool.{true}
 use Prim.Native.Nat.{ℕ, suc, _<_}
 use native.Mathlib.Omega.{arith}
-use lib.IntN.{ℤ, natAbs}
+use lib.IntN.{ℤ}
 use mir.Facts.{toZ-ofZ}
 use Rattle.profile.specs.Limits.{inRange, profileCount}
 use Rattle.profile.specs.Weight.{weightOf}
@@ -36,11 +36,10 @@ never p q = omega arith
 -- where no row holds, the answer has number 0 and the weight
 accepted : (k w : ℕ) (t : ℤ) (r : WeightAnswer) → k < profileCount → w < 7 → inRange t ≡ true → WeightMet k w t (weightAnswered r) (weightPlaced r) (weightGiven r)
     → (weightAnswered r ≡ 0) × (weightGiven r ≡ weightOf k w t)
-unfolding weightOf
 accepted k w t r hk hw ht m =
     let e = lt-leb profileCount k hk in
     let f = le-ltb 6 w (omega arith) in
-    (simp (e, f, ht) at (m .answers), ap natAbs (simp (e, f, ht) at (m .gives)))
+    (simp (e, f, ht) at (m .answers), simp (e, f, ht) at (m .gives))
 
 met : (c : tie.After-day-weight) → let a = c .before .args in
     (weightAnswered (c .day-weight .result) ≡ 0) × (weightGiven (c .day-weight .result) ≡ weightOf (a .profile) (a .weekday) (a .t))

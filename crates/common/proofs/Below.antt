@@ -1,13 +1,11 @@
--- What the questions about boundaries answer (Account and its calls): everywhere, somewhere, first, last, how many, never falling. Assumes nothing.
+-- What the questions about numbers below one answer (Account and its calls): everywhere, somewhere, first, last, how many. Assumes nothing.
 use mathlib.Core.Path.{_≡_, refl, sym, subst}
 use mathlib.Core.Bool.{Bool, true, false, cond, _&&_, _||_, and-false, or-true}
 use mathlib.Core.Logic.{⊎-elim}
 use Prim.Native.Nat.{ℕ, zero, suc, _≤_, _<_}
 use native.Mathlib.Nat.{not-suc-le-zero, eq-or-lt-of-le, le-of-suc-le-suc}
 use native.Mathlib.Omega.{arith}
-use borrow.Author.Tests.{leb-true}
-use Rattle.account.specs.Below.{everywhere, somewhere, howMany, first, last}
-use Rattle.account.specs.Stands.{Readings, neverFalling}
+use Rattle.common.specs.Below.{everywhere, somewhere, howMany, first, last}
 
 -- a test that is true is not false
 pub clash : {b : Bool} → b ≡ true → b ≡ false → ⊥
@@ -26,7 +24,7 @@ neither true b h = absurd (clash refl h)
 neither false b h = (refl, h)
 
 -- what holds below m and at m holds below suc m
-below-suc {ℓ} : (P : ℕ → Type ℓ) (m : ℕ) → ((k : ℕ) → k < m → P k) → P m → (k : ℕ) → k < suc m → P k
+pub below-suc {ℓ} : (P : ℕ → Type ℓ) (m : ℕ) → ((k : ℕ) → k < m → P k) → P m → (k : ℕ) → k < suc m → P k
 below-suc P m all here k h = ⊎-elim (λ e. subst P (sym e) here) (λ lt. all k lt) (eq-or-lt-of-le (le-of-suc-le-suc h))
 
 -- k is the first boundary at which p holds, and lies below m
@@ -46,6 +44,11 @@ module _ (p : ℕ → Bool) where
   unfolding everywhere
   every-at zero h k lt = absurd (omega arith)
   every-at (suc m) h k lt = let b = both (everywhere p m) (p m) h in below-suc (λ j. p j ≡ true) m (every-at m (b .0)) (b .1) k lt
+
+  pub every-is : (m : ℕ) → ((k : ℕ) → k < m → p k ≡ true) → everywhere p m ≡ true
+  unfolding everywhere
+  every-is zero all = refl
+  every-is (suc m) all = rw (every-is m (λ k h. all k (omega arith)), all m (omega arith))
 
   pub none-at : (m : ℕ) → somewhere p m ≡ false → (k : ℕ) → k < m → p k ≡ false
   unfolding somewhere
@@ -215,13 +218,3 @@ module _ (p : ℕ → Bool) where
 
   pub last-at : (m k : ℕ) → k < m → p k ≡ true → ((j : ℕ) → k < j → j < m → p j ≡ false) → last p m ≡ k
   last-at m k l e none = last-is (record { below = l; holds = e; none-after = none })
-
--- a reading has at least what the reading before it has
-pub rising : (r : Readings) (m : ℕ) → neverFalling r m ≡ true → (k : ℕ) → k < m → r .at k ≡ true → somewhere (r .at) k ≡ true →
-    r .count (last (r .at) k) ≤ r .count k
-unfolding neverFalling
-rising r zero h k lt at earlier = absurd (omega arith)
-rising r (suc m) h k lt at earlier =
-    let b = both (neverFalling r m) _ h in
-    below-suc (λ j. r .at j ≡ true → somewhere (r .at) j ≡ true → r .count (last (r .at) j) ≤ r .count j) m (rising r m (b .0))
-    (λ here before. leb-true _ _ (simp (here, before) at (b .1))) k lt at earlier

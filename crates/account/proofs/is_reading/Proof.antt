@@ -1,7 +1,7 @@
--- `account::marks::is_reading` meets its contract (Account and its calls): the two tests, one after the other. Assumes nothing.
+-- `account::is_reading` meets its contract (Account and its calls): the two tests, one after the other. Assumes nothing.
 use borrow.Author.Tests.{eq-eqb, ne-eqb}
-use Rattle.account.proofs.marks.is_reading.Statement.{statement}
-use Rattle.account.proofs.marks.is_reading.Tie as tie
+use Rattle.account.proofs.is_reading.Statement.{statement}
+use Rattle.account.proofs.is_reading.Tie as tie
 
 returns : tie.Need-returns
 returns c = simp (eq-eqb _ 2 (c .if1 .taken))

@@ -1,6 +1,6 @@
--- A statement that is given is printed in full (Case file): none of the ways in which there could be no text arises. Assumes nothing.
+-- A statement that is given is one that has a text (Case file): none of the ways in which there could be none arises. Assumes nothing.
 use Prim.Native.Nat.{ℕ, zero, suc, _+_, _-_, _≤_, _<_}
-use mathlib.Core.Path.{_≡_, sym, ap, _∙_}
+use mathlib.Core.Path.{_≡_, ap}
 use mathlib.Core.Bool.{false}
 use mathlib.Core.List.{List, map}
 use native.Mathlib.Omega.{arith}
@@ -10,21 +10,20 @@ use borrow.Author.Tests.{le-ltb, ltb-false, ne-eqb}
 use lib.Dec.{ltb}
 use lib.ListN.{length, getD, replicate, length-append, length-map}
 use Rattle.profile.specs.Limits.{spanMost}
-use Rattle.account.specs.Below.{somewhere, howMany}
-use Rattle.account.specs.Account.{days, shown, energyMost}
-use Rattle.account.proofs.Below.{none-is}
+use Rattle.common.specs.Below.{somewhere, howMany}
+use Rattle.account.specs.Account.{Account, days, shown, energyMost}
+use Rattle.account.specs.Slices.{Checked}
+use Rattle.common.proofs.Below.{none-is}
 use Rattle.account.proofs.Sound.{fit, sound-parts}
-use Rattle.account.proofs.Rows.{row-none, checked, rows-through}
-use Rattle.profile.specs.Rows.{filled}
-use Rattle.statement.specs.Parts.{Part, Outputs, parts, written}
+use Rattle.common.specs.Rows.{filled}
+use Rattle.statement.specs.Parts.{Part, Outputs, partsOf, statementOf}
 use Rattle.statement.specs.Shares.{total}
-use Rattle.statement.specs.Call.{statementRows}
+use Rattle.statement.specs.Call.{tooFewReadings}
 use Rattle.statement.proofs.Order.{valid-of-sound}
 use Rattle.statement.proofs.Parts.{parts-fit}
 use Rattle.statement.proofs.Successive.{successive}
 use Rattle.statement.proofs.Facts.{sums-up}
-use Rattle.layout.specs.Text.{noStatement, partsText}
-use Rattle.report.specs.Report.{PrintedInFull}
+use Rattle.layout.specs.Text.{noStatement}
 
 -- a part is no more than the total
 total-grows : (o : Outputs) (m i : ℕ) → i < m → getD (o .wh) i 0 ≤ total o m
@@ -43,18 +42,16 @@ long-enough f n ps =
     le-ltb (length (filled n (map f ps))) (length ps)
     (omega (arith, length-append (map f ps) (replicate (n - length (map f ps)) 0), length-map ps f))
 
-pub in-full : PrintedInFull
-in-full a number =
-    let ok = checked a (statementRows (days a) (shown a)) number in
-    let readings : ℕ = howMany (shown a .readings .at) (suc (days a)) in
-    let two = ltb-false readings 2 (row-none (ltb readings 2) 11 0 (omega arith) (sym (rows-through a (statementRows (days a) (shown a)) ok) ∙ number) .0) in
-    let ps = parts (a .weights) (shown a) in
-    let o = written (days a) ps in
+pub in-full : (a : Account) → Checked a → tooFewReadings (days a) (shown a .readings) ≡ false →
+    noStatement (statementOf (a .weights) (shown a)) (length (partsOf (a .weights) (shown a))) ≡ false
+in-full a ok some =
+    let two = ltb-false (howMany (shown a .readings .at) (suc (days a))) 2 some in
+    let ps = partsOf (a .weights) (shown a) in
+    let o = statementOf (a .weights) (shown a) in
     let sum = sums-up (a .weights) (shown a) (valid-of-sound a (ok .sound)) two in
     let few = parts-fit (a .weights) (shown a) (days a) in
     let small : somewhere (λ i. ltb energyMost (getD (o .wh) i 0)) (length ps) ≡ false =
     none-is _ (length ps) (λ i h. le-ltb energyMost (getD (o .wh) i 0) (omega (arith, total-grows o (length ps) i h, sum, sound-parts a (ok .sound) .energy))) in
-    let is : noStatement o (length ps) ≡ false =
     simp (
       ne-eqb (length ps) 0 (λ none. omega (arith, successive (a .weights) (shown a) two .not-empty)),
       le-ltb spanMost (length ps) (omega (arith, few, fit a (ok .fits) .most)),
@@ -62,5 +59,4 @@ in-full a number =
       long-enough (λ (p : Part). p .to) (days a) ps,
       long-enough (λ (p : Part). p .wh) (days a) ps,
       small,
-    ) in
-    rw (number, is) (ap (partsText o (length ps)) sum)
+    )
