@@ -3,7 +3,7 @@
 
     python3 tools/wrong_programs.py [CRATE ..]
 
-An edit of the gate holds several wrong programs of its crate, at most one in a function or definition, each after a line `# NAME: what is wrong`. The gate
+An edit of the gate holds several wrong programs of its crate, at most one in a function, a definition or a field, each after a line `# NAME: what is wrong`. The gate
 shows that every edit is refused, proved from nothing. This makes one wrong program after the other in copies of the repository and has
 `rt dev` check the crate, which checks again only what that touches: each must be refused, and not because a proof no longer fits the code's
 form.

@@ -1,6 +1,5 @@
--- The calls for C and Rust by their names (If a call declines): the contract of each, as the toolchain reads it, IS that of the call below it, over the
--- numbers that it returns. The account's calls are the steps of `Run`, and open is that of `Claim`, so demand 3 is about lists of them as it is about
--- lists of the calls below.
+-- The calls of demand 3 for C and Rust: the contract of each, as the toolchain reads it, is the step of `Run` of its name, over the numbers that it
+-- returns; that of open is the hypothesis of `Claim`, and the statement's says besides that its place is 0. So demand 3 is about lists of them too.
 -- (proofs/Names, `named`: by `refl`, so an `ensures` that is not the one of its name breaks it)
 use mathlib.Core.Path.{_≡_}
 use contract.Lifetimes

@@ -21,8 +21,8 @@ accountText a =
 abbrev pub answeredText : (number parts : ℕ) → Outputs → List ℕ
 answeredText number parts o = ifDone number (statementText o parts) (refusalText number 0)
 
--- room for the text of any account: 21 digits for a number and a byte after it, so 28 for the line `parts`, 66 for each of 1,096 lines and
--- 26 for `sum`
+-- room for the text of any account, 21 digits being allowed for a number (20 are enough): 28 for the line `parts`, 66 for each of 1,096 lines
+-- and 26 for `sum`
 abbrev pub textMost : ℕ
 textMost = 72_390
 

@@ -22,7 +22,7 @@ pub fn upper(n: u32, m: u32, c: u32) -> u64
     by_roots::bound(Rounding::Up, Rounding::Down, n, m, c)
 }
 
-// Both, which enclose the exact power.
+// Both. Where n is at most m, and m above 0, they enclose the exact power.
 pub fn bounds(n: u32, m: u32, c: u32) -> Bounds
     ensures { λ r. ⌜ BoundsMet n m c (r .low) (r .high) ⌝ }
     ensures { λ r. do ⌜ (← ⟦ONE⟧ .entry) ≡ one ⌝ }

@@ -9,7 +9,7 @@ use Rattle.profile.specs.declared.Profile.{Profile}
 use Rattle.power.specs.Power.{one, upward, pLow, pHigh, Encloses}
 use Rattle.profile.specs.Limits.{inRange}
 
--- "Let b be |B| and u = (4,000 - t) × 100,000": above 0, since t is at most 3,999
+-- "Let b be |B| and u = (4,000 - t) × 100,000": u is above 0 where t is in range, at most 3,999
 abbrev pub bOf : Profile → ℕ
 bOf p = natAbs (p .b)
 

@@ -1,5 +1,5 @@
 -- The rule's own facts (Account and its calls, "Statement"; Buyer's note: "the closeness of shares [is] proved for the rules themselves,
--- whatever profile or n"). For any n, any weights above 0 and any readings that never fall; proofs/Has.antt, proofs/Successive.antt and
+-- whatever profile or n"). None asks more of weights and readings than `Valid` has; proofs/Has.antt, proofs/Successive.antt and
 -- proofs/Facts.antt prove them.
 use Prim.Native.Nat.{ℕ, suc, _+_, _-_, _*_, _≤_, _<_}
 use mathlib.Core.Path.{_≡_}

@@ -146,7 +146,7 @@ fn differences([header, ffi, proved, model, profile, report, layout]: &[String; 
     let calls = [of_c(&meant(&header, &words(C_TYPES))), of_rust(&words(ffi)), of_rust(&meant(&rust, &words(model)))];
     let listed = after(&header, "enum {").into_iter().flat_map(|rest| parted(rest, "}").0.split(|word| *word == ","));
     let listed = listed.filter(|constant| !constant.is_empty()).map(|constant| constant.join(" ")).collect();
-    let (days, file, text) = (number(profile, "SPAN"), number(report, "BYTES_READ"), number(layout, "TEXT_MOST"));
+    let (days, file, text) = (number(profile, "SPAN_MOST"), number(report, "BYTES_READ"), number(layout, "TEXT_MOST"));
     let right = [("DAYS", days), ("BOUNDARIES", days + 1), ("FILE", file), ("TEXT", text)];
     let right = right.map(|(name, value)| format!("ARVADUSH_{name} = {value}")).into();
     let constants = [("the header", listed), ("the crates", right)];
@@ -208,7 +208,7 @@ fn faults_of_the_other_files_are_found() {
         (2, "*const", "*mut"),
         (2, "place: usize", "place: u32"),
         (3, "type Mean = i16", "type Mean = i32"),
-        (4, "SPAN: usize = 1_096", "SPAN: usize = 1_095"),
+        (4, "SPAN_MOST: usize = 1_096", "SPAN_MOST: usize = 1_095"),
         (5, "BYTES_READ: usize = 16_384", "BYTES_READ: usize = 16_385"),
         (6, "TEXT_MOST: usize = 72_390", "TEXT_MOST: usize = 72_389"),
     ];

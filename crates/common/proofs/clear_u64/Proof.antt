@@ -7,35 +7,17 @@ use Rattle.common.proofs.Clear.{Cleared, cleared-none, cleared-more, cl
 use Rattle.common.proofs.clear_u64.Statement.{statement}
 use Rattle.common.proofs.clear_u64.Tie as tie
 
-abbrev Inv-loop : tie.InvT-loop
-Inv-loop longs₀ i₀ longs i = Cleared longs₀ longs i
-
-abbrev μ-loop : tie.MeasureT-loop
-μ-loop longs₀ i₀ longs i = length longs₀ - i
-
-loop-holds : tie.Need-loop-holds Inv-loop μ-loop
-loop-holds c = cleared-none _
-
-mul-longs : tie.Need-mul-longs Inv-loop μ-loop
-mul-longs c = search needs
-
-slice-write-longs : tie.Need-slice-write-longs Inv-loop μ-loop
-slice-write-longs c = omega arith
-
-add-i : tie.Need-add-i Inv-loop μ-loop
-add-i c = omega arith
-
-loop-less : tie.Need-loop-less Inv-loop μ-loop
-loop-less c = omega arith
-
-loop-again : tie.Need-loop-again Inv-loop μ-loop
-loop-again c = cleared-more (c .before .loop .inv) (omega arith)
-
-same-length : tie.Need-same-length Inv-loop μ-loop
-same-length c = c .before .loop .inv .long
-
-returns : tie.Need-returns Inv-loop μ-loop
-returns c = cleared-all (c .before .loop .inv) (omega arith)
-
 pub clear-u64-spec : {M : Type 1} → statement M
-clear-u64-spec = tie.close (tie.spec Inv-loop μ-loop loop-holds mul-longs slice-write-longs add-i loop-less loop-again same-length returns)
+clear-u64-spec =
+    tie.close
+    (tie.spec
+    (λ before i₀ now i. Cleared before now i)
+    (λ before i₀ now i. length before - i)
+    (λ c. cleared-none _)
+    (λ c. search needs)
+    (λ c. omega arith)
+    (λ c. omega arith)
+    (λ c. omega arith)
+    (λ c. cleared-more (c .before .loop .inv) (omega arith))
+    (λ c. c .before .loop .inv .long)
+    (λ c. cleared-all (c .before .loop .inv) (omega arith)))

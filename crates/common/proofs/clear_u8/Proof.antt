@@ -6,32 +6,16 @@ use Rattle.common.proofs.Clear.{Cleared, cleared-none, cleared-more, cl
 use Rattle.common.proofs.clear_u8.Statement.{statement}
 use Rattle.common.proofs.clear_u8.Tie as tie
 
-abbrev Inv-loop : tie.InvT-loop
-Inv-loop bytes₀ i₀ bytes i = Cleared bytes₀ bytes i
-
-abbrev μ-loop : tie.MeasureT-loop
-μ-loop bytes₀ i₀ bytes i = length bytes₀ - i
-
-loop-holds : tie.Need-loop-holds Inv-loop μ-loop
-loop-holds c = cleared-none _
-
-slice-write-bytes : tie.Need-slice-write-bytes Inv-loop μ-loop
-slice-write-bytes c = omega arith
-
-add-i : tie.Need-add-i Inv-loop μ-loop
-add-i c = omega arith
-
-loop-less : tie.Need-loop-less Inv-loop μ-loop
-loop-less c = omega arith
-
-loop-again : tie.Need-loop-again Inv-loop μ-loop
-loop-again c = cleared-more (c .before .loop .inv) (omega arith)
-
-same-length : tie.Need-same-length Inv-loop μ-loop
-same-length c = c .before .loop .inv .long
-
-returns : tie.Need-returns Inv-loop μ-loop
-returns c = cleared-all (c .before .loop .inv) (omega arith)
-
 pub clear-u8-spec : {M : Type 1} → statement M
-clear-u8-spec = tie.close (tie.spec Inv-loop μ-loop loop-holds slice-write-bytes add-i loop-less loop-again same-length returns)
+clear-u8-spec =
+    tie.close
+    (tie.spec
+    (λ before i₀ now i. Cleared before now i)
+    (λ before i₀ now i. length before - i)
+    (λ c. cleared-none _)
+    (λ c. omega arith)
+    (λ c. omega arith)
+    (λ c. omega arith)
+    (λ c. cleared-more (c .before .loop .inv) (omega arith))
+    (λ c. c .before .loop .inv .long)
+    (λ c. cleared-all (c .before .loop .inv) (omega arith)))
