@@ -1,6 +1,5 @@
 -- The rows of the table (If a call declines), from the facts that lead to each of them, and back. Assumes nothing.
 use Prim.Native.Nat.{ℕ, _≤_, _<_}
-use native.Mathlib.Omega.{arith}
 use mathlib.Core.Path.{_≡_, refl, sym, ap, ap₂, _∙_}
 use mathlib.Core.Bool.{Bool, true, false, not}
 use borrow.Author.Tests.{le-leb, lt-leb, le-ltb, ltb-false, not-false}

@@ -7,7 +7,7 @@ use lib.ListN.{length, getD}
 use denote.Ref.{RefT, now}
 use Rattle.profile.specs.Limits.{weightLeast, weightMost, badSpan}
 use Rattle.common.specs.Below.{everywhere}
-use Rattle.account.specs.Stands.{Stands, neverFalling, lastLessFirst}
+use Rattle.account.specs.Stands.{Readings, Stands, neverFalling, lastLessFirst}
 
 -- weights (n), marks and counts (n+1): a boundary is the start of a gas day, n the end of the last one, a reading's count the meter's register in Wh, a cut a date at which
 -- the energy between two readings is divided
@@ -42,16 +42,11 @@ markOf true false = 2
 markOf true true = 3
 
 -- what the marks and counts show
+abbrev pub readingsIn : List ℕ → List ℕ → Readings
+readingsIn marks counts = record { at = λ k. marksReading (getD marks k 0); count = λ k. getD counts k 0 }
+
 abbrev pub shown : Account → Stands
-shown a =
-    record {
-      readings =
-          record {
-            at = λ k. marksReading (getD (a .marks) k 0);
-            count = λ k. getD (a .counts) k 0;
-          };
-      cut = λ k. marksCut (getD (a .marks) k 0);
-    }
+shown a = record { readings = readingsIn (a .marks) (a .counts); cut = λ k. marksCut (getD (a .marks) k 0) }
 
 -- "n outside 1 to 1,096, or a lent length unfit": marks and counts are n+1 long
 abbrev pub unfitLengths : ℕ → ℕ → ℕ → Bool

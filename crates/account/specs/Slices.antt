@@ -6,7 +6,7 @@ use mathlib.Core.List.{List}
 use lib.Dec.{ltb}
 use lib.ListN.{length, getD}
 use Rattle.profile.specs.Limits.{spanLeast, spanMost}
-use Rattle.account.specs.Stands.{Readings, neverFalling}
+use Rattle.account.specs.Stands.{neverFalling}
 use Rattle.account.specs.Account.{Account, days, shown, unfit, marksReading, goodMarks, zeroCounts}
 use Rattle.account.specs.Account as accounts
 use Rattle.common.specs.Rows.{row, ifDone}
@@ -19,10 +19,6 @@ readsAt marks k = marksReading (getD marks k 0)
 -- the count at k, 0 past the end
 abbrev pub countAt : List ℕ → ℕ → ℕ
 countAt counts k = getD counts k 0
-
--- the readings that these marks and counts show
-abbrev pub readingsIn : List ℕ → List ℕ → Readings
-readingsIn marks counts = record { at = readsAt marks; count = countAt counts }
 
 -- the lengths of an account that fits
 pub record Fit (a : Account) : Type 0 where

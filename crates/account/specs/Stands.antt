@@ -1,6 +1,6 @@
 -- What stands (Account and its calls): the readings with their counts, and the cuts, as functions of the boundary.
--- The rows from 6 on are written over this and n, the statement's rule over this and the weights: neither over marks and counts. After a
--- list of calls, and in a sound account, the count is 0 where no reading stands.
+-- Rows 6 to 11 of the account's calls and of the statement are written over this and n, the statement's rule over this and the weights. After
+-- a list of calls, and in a sound account, the count is 0 where no reading stands.
 use Prim.Native.Nat.{ℕ, zero, suc, _-_}
 use mathlib.Core.Bool.{Bool, true, false, cond, _&&_}
 use lib.Dec.{leb, eqb}

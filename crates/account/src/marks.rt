@@ -5,8 +5,8 @@ ghost use mathlib.Core.Path.{_≡_};
 ghost use lib.ListN.{length, getD};
 ghost use Rattle.common.specs.Below as boundaries;
 ghost use Rattle.account.specs.Stands.{lastLessFirst};
-ghost use Rattle.account.specs.Account.{marksCut};
-ghost use Rattle.account.specs.Slices.{readsAt, countAt, readingsIn};
+ghost use Rattle.account.specs.Account.{marksCut, readingsIn};
+ghost use Rattle.account.specs.Slices.{readsAt, countAt};
 
 // A cut: 1, or 3 with a reading.
 pub(crate) fn is_cut(m: u8) -> bool

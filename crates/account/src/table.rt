@@ -17,10 +17,10 @@ ghost use lib.Dec.{ltb};
 ghost use lib.ListN.{length};
 ghost use Rattle.common.specs.Below.{first, last};
 ghost use Rattle.account.specs.Stands.{put, withReading, lastLessFirst};
-ghost use Rattle.account.specs.Account.{accountIn, shown, marksReading};
+ghost use Rattle.account.specs.Account.{accountIn, shown, readingsIn, marksReading};
 ghost use Rattle.account.specs.Refusals.{outOfOrder, readingNumber, withdrawNumber, cutNumber, uncutNumber};
 ghost use Rattle.account.specs.Calls.{number};
-ghost use Rattle.account.specs.Slices.{Fit, boundaryRows, nextRow, readsAt, countAt, readingsIn};
+ghost use Rattle.account.specs.Slices.{Fit, boundaryRows, nextRow, readsAt, countAt};
 
 // The rows of every call on a boundary: 3, 5 and 6.
 fn boundary_answer(weights: &[u32], marks: &[u8], counts: &[u64], k: usize) -> Answer

@@ -7,7 +7,7 @@ use mathlib.Core.List.{List}
 use lib.Dec.{ltb}
 use lib.IntN.{ℤ}
 use lib.ListN.{length, take}
-use Rattle.profile.specs.Limits.{profileCount, spanMost}
+use Rattle.profile.specs.Limits.{profileCount, spanLeast, spanMost}
 use Rattle.common.specs.Rows.{zeros}
 use Rattle.account.specs.Account.{Account, energyMost}
 use Rattle.weights.specs.Means.{someOut}
@@ -43,7 +43,7 @@ pub record Clear (n : ℕ) (lent : List ℕ) : Type 0 where
 pub record Weighable (profile weekday : ℕ) (means : List ℤ) (days : ℕ) (lent : List ℕ) : Type 0 where
   pub profile-known : profile < profileCount
   pub weekday-known : weekday ≤ 6
-  pub least : 1 ≤ days
+  pub least : spanLeast ≤ days
   pub most : days ≤ spanMost
   pub enough : days + 3 ≤ length means
   pub means-in-range : someOut (take (days + 3) means) ≡ false

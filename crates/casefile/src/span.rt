@@ -8,7 +8,7 @@ use profile::Profile;
 ghost use mathlib.Core.Path.{_≡_};
 ghost use Prim.Native.Nat.{_+_, _≤_};
 ghost use lib.ListN.{length, take};
-ghost use Rattle.profile.specs.Limits.{spanMost};
+ghost use Rattle.profile.specs.Limits.{spanLeast, spanMost};
 ghost use Rattle.weights.specs.Weights.{weightsOf};
 ghost use Rattle.common.specs.Rows.{filled};
 ghost use Rattle.casefile.specs.Case.{meansLength, daysOf};
@@ -46,7 +46,7 @@ fn head(file: &[u8]) -> SectionEnd
 
 // The means, up to the first fault, into a buffer.
 fn means_at(file: &[u8], at: usize, count: usize, means: &mut [i16]) -> SectionEnd
-    requires { ⌜ (at ≡ 4) × (count ≡ meansLength (now file)) × (4 ≤ count) × (count ≤ length (now means)) × (length (now means) ≡ spanMost + 3) ⌝ }
+    requires { ⌜ (at ≡ 4) × (count ≡ meansLength (now file)) × (spanLeast + 3 ≤ count) × (count ≤ length (now means)) × (length (now means) ≡ spanMost + 3) ⌝ }
     ensures { λ r. ⌜ MeansMet (now (file .entry)) r (now (means .exit)) ⌝ }
 {
     let mut i = 0;

@@ -12,3 +12,8 @@ rows-none f false here below some e = (refl, e)
 
 pub row-none : (b : Bool) (n rest : ℕ) → 0 < n → row b n rest ≡ 0 → (b ≡ false) × (rest ≡ 0)
 row-none b n rest l e = rows-none (λ m. m) b n rest (λ z. omega arith) e
+
+-- what each row gives, the table gives
+pub rows-all {ℓ} : {A : Type 0} (P : A → Type ℓ) (b : Bool) {here below : A} → P here → P below → P (row b here below)
+rows-all P true h g = h
+rows-all P false h g = g

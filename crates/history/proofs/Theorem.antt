@@ -1,7 +1,7 @@
 -- Demand 3: `demand3` proves the claim of specs/Demand3.antt. Assumes nothing.
 use Prim.Native.Nat.{ℕ, suc, _≤_}
 use mathlib.Core.Path.{_≡_, refl, sym, subst₂, _∙_}
-use mathlib.Core.Bool.{Bool, true, false}
+use mathlib.Core.Bool.{true}
 use mathlib.Core.List.{List}
 use native.Mathlib.Omega.{arith}
 use borrow.Author.Tests.{ltb-false}
@@ -13,11 +13,10 @@ use Rattle.account.specs.Calls.{OpenMet}
 use Rattle.account.proofs.Pairs.{pairs}
 use Rattle.account.proofs.Sound.{sound-parts}
 use Rattle.account.specs.Slices.{Checked}
-use Rattle.common.proofs.Rows.{rows-none}
+use Rattle.common.proofs.Rows.{rows-none, rows-all}
 use Rattle.account.proofs.Keeps.{Holds, shown-inside, open-keeps}
-use Rattle.common.specs.Rows.{row}
-use Rattle.statement.specs.Parts.{Outputs, partsOf, written, statementOf}
-use Rattle.statement.specs.Call.{StatementMet, Ruling, unfitOutputs, tooFewReadings, zeroed}
+use Rattle.statement.specs.Parts.{Outputs, partsOf, written}
+use Rattle.statement.specs.Call.{StatementMet, Ruling, unfitOutputs, tooFewReadings}
 use Rattle.statement.specs.Facts.{Valid, TwoReadings}
 use Rattle.statement.proofs.Order.{valid-of-sound}
 use Rattle.statement.proofs.Successive.{successive}
@@ -50,19 +49,13 @@ by a lent m b out f met =
     }
 
 -- a refused statement has no parts
-module _ (w : List ℕ) (s : Stands) (lent : Outputs) where
-  abbrev ruled : Bool → Bool → Ruling
-  ruled unfit few =
-      row unfit (record { number = 3; parts = 0; memory = lent })
-      (row few (record { number = 11; parts = 0; memory = zeroed lent }) (record { number = 0; parts = length (partsOf w s); memory = statementOf w s }))
+abbrev NoneIfRefused : Ruling → Type 0
+NoneIfRefused r = (r .number ≡ 0 → ⊥) → r .parts ≡ 0
 
-  none-ruled : (unfit few : Bool) → (ruled unfit few .number ≡ 0 → ⊥) → ruled unfit few .parts ≡ 0
-  none-ruled true few some = refl
-  none-ruled false true some = refl
-  none-ruled false false some = absurd (some refl)
-
-  none-declined : (statementSays w s lent .number ≡ 0 → ⊥) → statementSays w s lent .parts ≡ 0
-  none-declined = none-ruled (unfitOutputs (length w) lent) (tooFewReadings (length w) (s .readings))
+none-declined : (w : List ℕ) (s : Stands) (lent : Outputs) → NoneIfRefused (statementSays w s lent)
+none-declined w s lent =
+    rows-all NoneIfRefused (unfitOutputs (length w) lent) (λ some. refl)
+    (rows-all NoneIfRefused (tooFewReadings (length w) (s .readings)) (λ some. refl) (λ some. absurd (some refl)))
 
 -- .. and what the table says of memory
 declines : (a : Account) (lent : Outputs) (r m : ℕ) (b : Account) (out : Outputs) → Checked a → StatementMet a lent r m b out → (r ≡ 0 → ⊥) →

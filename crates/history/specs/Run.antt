@@ -9,7 +9,7 @@ use Rattle.common.specs.Rows.{row}
 use Rattle.account.specs.Refusals.{readingRows, withdrawRows, cutRows, uncutRows}
 use Rattle.account.specs.Calls.{ReadingMet, WithdrawMet, CutMet, UncutMet}
 use Rattle.statement.specs.Parts.{Outputs}
-use Rattle.statement.specs.Call.{Ruling, StatementMet, statementRows, unfitOutputs}
+use Rattle.statement.specs.Call.{Ruling, StatementMet, outputsRow, statementRows}
 use Rattle.history.specs.History.{Call}
 use Rattle.history.specs.History as history
 
@@ -48,9 +48,7 @@ answered (statement o r m a e) = r
 
 -- what the table, applied to what stands, lays down for a statement: 3 and 5 of the account cannot arise after open
 abbrev pub statementSays : List ℕ → Stands → Outputs → Ruling
-statementSays w s lent =
-    row (unfitOutputs (length w) lent) (record { number = 3; parts = 0; memory = lent })  -- a lent length unfit
-    (statementRows w s lent)
+statementSays w s lent = outputsRow (length w) lent (statementRows w s lent)
 
 -- the number that it gives the call
 abbrev pub tableSays : List ℕ → Stands → Call → ℕ

@@ -1,5 +1,5 @@
 -- The calls of demand 3 are the crates' own functions: for each of the six, the contract as the toolchain reads it IS the step of `Run` (of
--- open, the hypothesis of `Claim`), and so for the weights call; and none asks anything of its caller, "each entry point checks its own input".
+-- open, the hypothesis of `Claim .after-open`), and so for the weights call; and none asks anything of its caller, "each entry point checks its own input".
 -- (proofs/Ties, `tied`: by `refl`, so a contract that is weakened breaks it)
 use mathlib.Core.Path.{_≡_}
 use contract.Lifetimes

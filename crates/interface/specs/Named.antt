@@ -1,5 +1,5 @@
 -- The calls of demand 3 for C and Rust: the contract of each, as the toolchain reads it, is the step of `Run` of its name, over the numbers that it
--- returns; that of open is the hypothesis of `Claim`, and the statement's says besides that its place is 0. So demand 3 is about lists of them too.
+-- returns; that of open is the hypothesis of `Claim .after-open`, and the statement's says besides that its place is 0. So demand 3 is about lists of them too.
 -- (proofs/Names, `named`: by `refl`, so an `ensures` that is not the one of its name breaks it)
 use mathlib.Core.Path.{_≡_}
 use contract.Lifetimes

@@ -1,11 +1,11 @@
--- Texts laid out (Case file, the program's output): two one after the other are their joined text, one at the start of a slice can be read there. Assumes nothing.
+-- Texts laid out (Case file, the program's output): two one after the other are their joined text. Assumes nothing.
 use mathlib.Core.Path.{_≡_, refl, ap, _∙_}
 use mathlib.Core.List.{List, [], _∷_, _++_, append-assoc}
-use Prim.Native.Nat.{ℕ, suc, _+_, _≤_}
+use Prim.Native.Nat.{ℕ, suc, _+_}
 use native.Mathlib.Nat.{add-zero}
 use native.Mathlib.Omega.{arith}
-use lib.ListN.{length, take, drop, set, length-append}
-use lib.Seq.{sets, sets-eq, length-sets, take-at}
+use lib.ListN.{length, set, length-append}
+use lib.Seq.{sets}
 use mathlib.Core.Bool.{true, false}
 use Rattle.statement.specs.Parts.{Outputs}
 use Rattle.layout.specs.Text.{LaidOut, TextMet, noStatement, statementText, partsText}
@@ -32,16 +32,6 @@ then-laid {at} {xs} {o} {m} {p} {ys} one two =
 pub then-both : {at : ℕ} {xs o : List ℕ} {m : ℕ} {p : List ℕ} {n : ℕ} {q : List ℕ} (ys zs : List ℕ) →
     LaidOut at xs o m p → LaidOut m (ys ++ zs) p n q → LaidOut at (xs ++ ys ++ zs) o n q
 then-both {xs = xs} ys zs one two = rw (append-assoc xs ys zs) (then-laid one two)
-
--- a text at the start of a slice that can hold it lies within that slice, and is all that was laid out
-module _ {text out : List ℕ} {next : ℕ} {after : List ℕ} (laid : LaidOut 0 text out next after) (fits : length text ≤ length out) where
-  pub start-within : next ≤ length after
-  start-within = omega (arith, fits, laid .ends, ap length (laid .stored), length-sets out 0 text)
-
-  pub start-is : take next after ≡ text
-  start-is =
-      ap (take next) (laid .stored ∙ sets-eq text out 0 (omega (arith, fits))) ∙
-      take-at text (drop (0 + length text) out) next (omega (arith, laid .ends))
 
 -- what is laid out where there can be no such statement: nothing
 pub none-laid : (o : Outputs) (m : ℕ) (out : List ℕ) → noStatement o m ≡ true → TextMet (statementText o m) out 0 out o o

@@ -4,8 +4,9 @@ use mathlib.Core.Path.{_≡_, refl, _∙_}
 use mathlib.Core.Bool.{Bool, true, false, cond, _&&_}
 use mathlib.Core.List.{List, [], _∷_, _++_}
 use native.Mathlib.Omega.{arith}
-use borrow.Author.Tests.{le-leb, ltb-true}
-use lib.Dec.{ltb}
+use borrow.Author.Tests.{le-leb, leb-true, ltb-true}
+use lib.Dec.{leb, ltb}
+use Rattle.common.proofs.Below.{both}
 use Rattle.layout.specs.Text.{digit, digits, decimal, isDigit, allDigits, valueAfter, ReadBack}
 use Rattle.layout.proofs.Decimal.{fewer}
 
@@ -43,6 +44,15 @@ digits-alone (suc more) n = by (ltb n 10) (digits more (n / 10)) (digits-alone m
     by true before all = digit-more [] (n % 10) (omega arith) refl
     by false before all = digit-more before (n % 10) (omega arith) all
 
+one-of-ten : (xs ys : List ℕ) (x : ℕ) → allDigits (xs ++ (x ∷ ys)) ≡ true → (d : ℕ) × (d < 10) × (x ≡ digit d)
+unfolding allDigits
+one-of-ten [] ys x all =
+    let test = both (leb 48 x) (leb x 57) (both (isDigit x) (allDigits ys) all .0) in
+    let low = leb-true 48 x (test .0) in
+    let high = leb-true x 57 (test .1) in
+    (x - 48, omega arith, omega arith)
+one-of-ten (y ∷ xs) ys x all = one-of-ten xs ys x (both (isDigit y) (allDigits (xs ++ (x ∷ ys))) all .1)
+
 pub read-back : ReadBack
 unfolding decimal
-read-back n l = (digits-alone 19 n, digits-value 19 n (omega (arith, l)))
+read-back = record { reads = λ n l. (digits-alone 19 n, digits-value 19 n (omega (arith, l))); ten = one-of-ten }

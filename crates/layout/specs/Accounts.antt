@@ -9,7 +9,7 @@ use Rattle.statement.specs.Parts.{Outputs, partsOf, statementOf}
 use Rattle.statement.specs.Call.{tooFewReadings}
 use Rattle.layout.specs.Text.{partsText, statementText, refusalText}
 
--- the table of the statement call, with the text beside each row: a refusal has no place
+-- the rows of a statement call whose outputs fit, with the text beside each: a refusal has no place
 abbrev pub accountText : Account → List ℕ
 accountText a =
     row (unfit a) (refusalText 3 0)  -- n outside 1 to 1,096, or a lent length unfit

@@ -45,9 +45,12 @@ unfoldable pub valueAfter : ℕ → List ℕ → ℕ
 valueAfter v [] = v
 valueAfter v (x ∷ xs) = valueAfter (v * 10 + (x - 48)) xs
 
--- a number of 64 bits is printed with digits alone, and they read as that number (proofs/ReadBack, `read-back`)
-abbrev pub ReadBack : Type 0
-ReadBack = (n : ℕ) → n < 2 ^ 64 → (allDigits (decimal n) ≡ true) × (valueAfter 0 (decimal n) ≡ n)
+-- (proofs/ReadBack, `read-back`)
+pub record ReadBack : Type 0 where
+  -- a number of 64 bits is printed with digits alone, and they read as that number
+  pub reads : (n : ℕ) → n < 2 ^ 64 → (allDigits (decimal n) ≡ true) × (valueAfter 0 (decimal n) ≡ n)
+  -- digits alone: each byte is one of the ten
+  pub ten : (xs ys : List ℕ) (x : ℕ) → allDigits (xs ++ (x ∷ ys)) ≡ true → (d : ℕ) × (d < 10) × (x ≡ digit d)
 
 abbrev pub space : List ℕ
 space = 32 ∷ []

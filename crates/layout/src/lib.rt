@@ -19,7 +19,7 @@ ghost use Rattle.statement.specs.Call.{number, partCount};
 ghost use Rattle.layout.specs.Text.{LaidOut, TextMet, statementText, refusalText, lineOf, partLines, partsText};
 ghost use Rattle.layout.specs.Accounts.{accountText, answeredText, textMost};
 
-// No text of a statement or a refusal is longer.
+// No text of an account is longer.
 pub const TEXT_MOST: usize = 72_390;
 
 // The text of a refusal with its number and place, at the start of out.

@@ -1,6 +1,6 @@
 -- The range of values and weights over the whole table (Profile value): a value lies between that with no share at the warm end of the
 -- temperatures and that with a whole share at the cold end, since a share is at most one and no line rises. Assumes nothing.
-use mathlib.Core.Path.{_≡_, refl}
+use mathlib.Core.Path.{_≡_, refl, sym}
 use mathlib.Core.Bool.{true}
 use Prim.Native.Nat.{ℕ, _+_, _-_, _*_, _/_, _^_, _≤_, _<_}
 use native.Mathlib.Nat.{div-le-of-le-mul, div-lt-iff-lt-mul, mul-le-mul, mul-le-mul-left}
@@ -146,7 +146,7 @@ module _ (k : ℕ) (t : ℤ) (h : k < profileCount) (r : inRange t ≡ true) whe
 pub whole-table : WholeTable
 unfolding weightOf
 whole-table k w t h g r = (
-  low-natural k t h r,
+  sym (natural weightLeast (heavy k t h r w g)),
   at-least weightLeast (heavy k t h r w g),
   at-most weightLeast weightMost (heavy k t h r w g) (light k t h r w g),
 )

@@ -3,7 +3,6 @@ use mathlib.Core.Path.{_≡_}
 use mathlib.Core.Bool.{true}
 use Prim.Native.Nat.{ℕ, _≤_, _<_}
 use lib.IntN.{ℤ, pos, natAbs, _*ℤ_}
-use lib.Signed.{_≤ℤ_}
 use lib.ListN.{getD}
 use Rattle.rounding.specs.Integers.{floorℤ}
 use Rattle.profile.specs.Limits.{inRange, profileCount, weightLeast, weightMost}
@@ -14,7 +13,7 @@ use Rattle.profile.specs.Value.{valueLow}
 abbrev pub factorOf : ℕ → ℕ → ℕ
 factorOf profile weekday = getD (profileOf profile .factors) weekday 0
 
--- the weight of a profile on a weekday at temperature t; no low value of the table is below zero (`WholeTable`), so neither is the floor
+-- the weight of a profile on a weekday at temperature t, as a natural number: over the table it is the floor itself (`WholeTable`)
 unfoldable pub weightOf : ℕ → ℕ → ℤ → ℕ
 weightOf profile weekday t = natAbs (floorℤ (valueLow (profileOf profile) t *ℤ pos (factorOf profile weekday)) 10_000_000)
 
@@ -22,4 +21,4 @@ weightOf profile weekday t = natAbs (floorℤ (valueLow (profileOf profile) t *�
 abbrev pub WholeTable : Type 0
 WholeTable =
     (profile weekday : ℕ) (t : ℤ) → profile < profileCount → weekday < 7 → inRange t ≡ true →
-    (pos 0 ≤ℤ valueLow (profileOf profile) t) × (weightLeast ≤ weightOf profile weekday t) × (weightOf profile weekday t ≤ weightMost)
+    (pos (weightOf profile weekday t) ≡ floorℤ (valueLow (profileOf profile) t *ℤ pos (factorOf profile weekday)) 10_000_000) × (weightLeast ≤ weightOf profile weekday t) × (weightOf profile weekday t ≤ weightMost)

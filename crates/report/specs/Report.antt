@@ -9,7 +9,7 @@ use Rattle.account.specs.Account.{Account}
 use Rattle.layout.specs.Text.{refusalText, LaidOut}
 use Rattle.layout.specs.Accounts.{accountText, textMost}
 use Rattle.casefile.specs.Case.{accountOf}
-use Rattle.casefile.specs.Faults.{Fault, faultOf}
+use Rattle.casefile.specs.Faults.{Fault}
 use Rattle.casefile.specs.Length.{bytesRead}
 use Rattle.casefile.specs.Reader.{faultNumber, faultPlace, verdict, slicesAfter}
 
@@ -20,17 +20,13 @@ textOf fault s =
     (accountText (accountOf s))
     (refusalText (faultNumber fault) (faultPlace fault))
 
--- what the program prints of a file
-abbrev pub fileText : List ℕ → List ℕ
-fileText s = textOf (faultOf s) s
-
--- .. and what a call prints that reads it into these slices: 3 where they are unfit
+-- what is printed of a file that is read into these slices: 3 where they are unfit
 abbrev pub caseText : List ℕ → Account → List ℕ
 caseText s lent = textOf (verdict s lent) s
 
--- of a file the program reads 16,384 bytes, and prints the text of the whole (proofs/Printed, `program-prints`)
-abbrev pub ProgramPrints : Type 0
-ProgramPrints = (s : List ℕ) → fileText (take bytesRead s) ≡ fileText s
+-- "the program reads at most 16,384": the text of a file's first 16,384 bytes is that of the whole (proofs/Printed, `enough-text`)
+abbrev pub EnoughText : Type 0
+EnoughText = (s : List ℕ) (lent : Account) → caseText (take bytesRead s) lent ≡ caseText s lent
 
 -- the text of a case file that is read into these slices, what they hold after it, and the file unchanged
 pub record CaseTextMet (file : List ℕ) (lent : Account) (out : List ℕ) (next : ℕ) (after : Account) (printed kept : List ℕ) : Type 0 where

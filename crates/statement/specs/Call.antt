@@ -43,6 +43,12 @@ pub record Ruling : Type 0 where
   pub parts : ℕ
   pub memory : Outputs
 
+-- the row of the outputs; below it come those of the account
+abbrev pub outputsRow : ℕ → Outputs → Ruling → Ruling
+outputsRow n lent below =
+    row (unfitOutputs n lent) (record { number = 3; parts = 0; memory = lent })  -- a lent length unfit
+    below
+
 -- the last row, over what stands; below it the statement
 abbrev pub statementRows : List ℕ → Stands → Outputs → Ruling
 statementRows w s lent =
@@ -51,7 +57,7 @@ statementRows w s lent =
 
 abbrev pub ruling : Account → Outputs → Ruling
 ruling a lent =
-    row (unfitOutputs (days a) lent) (record { number = 3; parts = 0; memory = lent })  -- a lent length unfit
+    outputsRow (days a) lent
     (row (unfit a) (record { number = 3; parts = 0; memory = lent })  -- n outside 1 to 1,096, or a lent length unfit
     (row (not (sound a)) (record { number = 5; parts = 0; memory = lent })  -- account unsound
     (statementRows (a .weights) (shown a) lent)))

@@ -1,6 +1,6 @@
 -- The rule's own facts (Account and its calls, "Statement"; Buyer's note: "the closeness of shares [is] proved for the rules themselves,
--- whatever profile or n"). None asks more of weights and readings than `Valid` has; proofs/Has.antt, proofs/Successive.antt and
--- proofs/Facts.antt prove them.
+-- whatever profile or n"). They ask for two readings, or two adjacent ones within the span, and some for `Valid`; proofs/Has.antt,
+-- proofs/Successive.antt and proofs/Facts.antt prove them.
 use Prim.Native.Nat.{ℕ, suc, _+_, _-_, _*_, _≤_, _<_}
 use mathlib.Core.Path.{_≡_}
 use mathlib.Core.Bool.{Bool, true, _&&_}
@@ -14,7 +14,7 @@ use Rattle.statement.specs.Split.{weightSum, has}
 use Rattle.statement.specs.Parts.{Outputs, marked, partsOf, statementOf}
 use Rattle.statement.specs.Shares.{Adjacent, Shared, total, energy}
 
--- all that the facts ask of the weights and of the readings that stand
+-- what the facts about sums and shares ask of the weights and of the readings that stand
 pub record Valid (w : List ℕ) (r : Readings) : Type 0 where
   pub weights : (d : ℕ) → d < length w → 0 < getD w d 0
   pub rises : neverFalling r (suc (length w)) ≡ true

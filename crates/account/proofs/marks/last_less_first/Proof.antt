@@ -1,5 +1,5 @@
 -- `account::marks::last_less_first` meets its contract (Account and its calls): the four calls' own contracts, put together. Assumes nothing.
-use Rattle.account.specs.Slices.{readingsIn}
+use Rattle.account.specs.Account.{readingsIn}
 use Rattle.account.proofs.LastLessFirst.{last-less-first-is}
 use Rattle.account.proofs.marks.last_less_first.Statement.{statement}
 use Rattle.account.proofs.marks.last_less_first.Tie as tie

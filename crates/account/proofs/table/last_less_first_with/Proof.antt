@@ -1,6 +1,6 @@
 -- `account::table::last_less_first_with` meets its contract (If a call declines): the five calls' own contracts, put together. Assumes nothing.
 use Rattle.account.specs.Stands.{withReading}
-use Rattle.account.specs.Slices.{readingsIn}
+use Rattle.account.specs.Account.{readingsIn}
 use Rattle.account.proofs.LastLessFirst.{last-less-first-is}
 use Rattle.account.proofs.table.last_less_first_with.Statement.{statement}
 use Rattle.account.proofs.table.last_less_first_with.Tie as tie
