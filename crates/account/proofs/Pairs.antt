@@ -4,13 +4,16 @@ use Prim.Native.Nat.{ℕ, zero, suc, _≤_, _<_}
 use mathlib.Core.Path.{_≡_, refl}
 use mathlib.Core.Logic.{⊎-elim}
 use mathlib.Core.Bool.{Bool, true, false, cond, _&&_}
+use mathlib.Core.List.{[], _∷_}
 use native.Mathlib.Nat.{eq-or-lt-of-le}
 use native.Mathlib.Omega.{arith}
 use lib.Dec.{leb, ltb, eqb}
+use lib.ListN.{getD}
 use borrow.Author.Tests.{leb-true, le-leb, eqb-true, eqb-false, lt-ltb, le-ltb, ltb-true, ltb-false}
-use Rattle.common.specs.Below.{somewhere, last}
+use Rattle.common.specs.Below.{everywhere, somewhere, first, last}
 use Rattle.account.specs.Stands.{Readings, withReading, neverFalling, lastLessFirst, firstReading, lastReading}
-use Rattle.account.specs.Refusals.{belowEarlier, aboveLater, outOfOrder, EqualCounts}
+use Rattle.account.specs.Account.{marksReading, readingsIn, goodWeights, goodMarks, zeroCounts}
+use Rattle.account.specs.Refusals.{belowEarlier, aboveLater, outOfOrder, EqualCounts, EqualBetween}
 use Rattle.common.proofs.Below.{clash, neither, none-at, none-is, first-found, last-found, first-least, last-most, last-less, last-holds, some-at, first-some, both, below-suc}
 
 -- a reading has at least what the reading before it has
@@ -95,9 +98,23 @@ equal-counts n r k v above below =
     earlier j false before c at = refl
 
     later : (j : ℕ) (b : Bool) → ltb k j ≡ b → (c : Bool) → r .at j ≡ c → (b && (c && ltb (r .count j) v)) ≡ false
-    later j true after true at = le-ltb (r .count j) v (below j at (ltb-true k j after))
+    later j true after true at = le-ltb (r .count j) v (omega (arith, below j at (ltb-true k j after)))
     later j true after false at = refl
     later j false after c at = refl
+
+pub equal-between : EqualBetween
+unfolding goodWeights goodMarks zeroCounts everywhere neverFalling lastLessFirst somewhere first last
+equal-between = rw (equal-counts 2 (readingsIn (2 ∷ 0 ∷ 2 ∷ []) (500 ∷ 0 ∷ 500 ∷ [])) 1 500 above below)
+  where
+    above : (j : ℕ) → marksReading (getD (2 ∷ 0 ∷ 2 ∷ []) j 0) ≡ true → j < 1 → getD (500 ∷ 0 ∷ 500 ∷ []) j 0 ≤ 500
+    above zero at before = omega arith
+    above (suc j) at before = absurd (omega arith)
+
+    below : (j : ℕ) → marksReading (getD (2 ∷ 0 ∷ 2 ∷ []) j 0) ≡ true → 1 < j → 500 ≤ getD (500 ∷ 0 ∷ 500 ∷ []) j 0
+    below zero at after = absurd (omega arith)
+    below (suc zero) at after = absurd (omega arith)
+    below (suc (suc zero)) at after = omega arith
+    below (suc (suc (suc j))) at after = absurd (clash at refl)
 
 module _ (n : ℕ) (r : Readings) (k v : ℕ) (fits : outOfOrder n r k v ≡ false) where
   neither-row : (somewhere (belowEarlier r k v) (suc n) ≡ false) × (somewhere (aboveLater r k v) (suc n) ≡ false)

@@ -3,11 +3,12 @@
 use Prim.Native.Nat.{ℕ, suc, _≤_, _<_}
 use mathlib.Core.Path.{_≡_}
 use mathlib.Core.Bool.{Bool, true, false, not, _&&_, _||_}
+use mathlib.Core.List.{[], _∷_}
 use lib.Dec.{ltb}
 use Rattle.common.specs.Rows.{row}
 use Rattle.common.specs.Below.{somewhere}
 use Rattle.account.specs.Stands.{Stands, Readings, withReading, lastLessFirst}
-use Rattle.account.specs.Account.{Account, days, shown, unfit, sound, goodWeights, energyMost}
+use Rattle.account.specs.Account.{Account, account, days, shown, unfit, sound, goodWeights, energyMost}
 
 -- 8: "count below an earlier or above a later reading", the one at j
 abbrev pub belowEarlier : Readings → ℕ → ℕ → ℕ → Bool
@@ -73,6 +74,10 @@ openNumber a =
 
 abbrev pub readingNumber : Account → ℕ → ℕ → ℕ
 readingNumber a k v = accountRows a (readingRows (days a) (shown a) k v)
+
+-- "Readings may have equal counts", by an example: between two readings of 500 a third of 500 is accepted (proofs/Pairs, `equal-between`)
+abbrev pub EqualBetween : Type 0
+EqualBetween = readingNumber (account (1 ∷ 1 ∷ []) (2 ∷ 0 ∷ 2 ∷ []) (500 ∷ 0 ∷ 500 ∷ [])) 1 500 ≡ 0
 
 abbrev pub withdrawNumber : Account → ℕ → ℕ
 withdrawNumber a k = accountRows a (withdrawRows (days a) (shown a) k)

@@ -1,22 +1,25 @@
 -- The refusals of a case file are the table's own (If a call declines). Assumes nothing.
-use Prim.Native.Nat.{ℕ, _+_, _≤_, _<_}
-use mathlib.Core.Path.{_≡_, refl, _∙_, ap}
+use Prim.Native.Nat.{ℕ, _+_, _-_, _≤_, _<_}
+use mathlib.Core.Path.{_≡_, refl, sym, _∙_, ap}
 use mathlib.Core.Bool.{Bool, true, false, cond, or-false}
 use mathlib.Core.List.{List}
+use mathlib.Core.Logic.{_↔_}
 use native.Mathlib.Omega.{arith}
 use native.Mathlib.Decide.{decLt}
 use borrow.Author.Tests.{lt-ltb, le-ltb, eq-eqb}
-use lib.Dec.{ltb, leb, eqb}
+use lib.Dec.{ltb, leb, eqb, lit<}
 use lib.ListN.{length, getD, replicate, length-replicate, List·getD-eq-default}
 use Rattle.profile.specs.Limits.{inRange, profileCount, badSpan}
 use Rattle.common.specs.Rows.{row}
+use Rattle.common.specs.Below.{somewhere}
+use Rattle.account.specs.Account.{energyMost}
 use Rattle.weights.specs.Means.{someOut}
 use Rattle.weights.specs.Weights.{Ruling, unfit}
-use Rattle.casefile.specs.Case.{profileByte, weekdayByte, meansLength, meansOf, daysOf, readingsOffset, readingsLength}
-use Rattle.casefile.specs.Faults.{Fault, refused, _before_, fault, headFault, readingsFault, spanFault}
+use Rattle.casefile.specs.Case.{profileByte, weekdayByte, meansLength, meansOf, daysOf, readingsOffset, readingsLength, readingOffset, readingBoundary, readingCount, cutOffset, cutBoundary}
+use Rattle.casefile.specs.Faults.{Fault, noFault, refused, _before_, fault, failsToRise, headFault, readingFault, cutFault, readingsFault, spanFault}
 use Rattle.casefile.specs.Reader.{faultNumber}
-use Rattle.casefile.specs.Agrees.{weighing, afterDay, FileAgrees}
-use Rattle.casefile.proofs.Faults.{none-both, passes, number-of, number-before}
+use Rattle.casefile.specs.Agrees.{weighing, afterDay, FileAgrees, ItemTaken}
+use Rattle.casefile.proofs.Faults.{none-both, passes, number-of, number-before, Numbered, numbered, numbered-before}
 use Rattle.casefile.proofs.Weighing.{means-length, means-out}
 use Rattle.casefile.proofs.Sound.{readings-sound, reading-agrees, cuts-sound, cut-agrees}
 
@@ -85,3 +88,30 @@ file-agrees =
           let all = passes (ltb (length s) (readingsOffset s + 2)) 13 (length s) _ readings .1 in
           cut-agrees s i (cuts-sound s (readings-sound s span (readingsLength s) all) i f);
     }
+
+reading-numbered : (s : List ℕ) (i : ℕ) → Numbered (readingFault s i)
+reading-numbered s i =
+    numbered-before (ltb (length s) (readingOffset s i + 10)) 13 _ _ (lit< tt)
+    (numbered-before (failsToRise (readingBoundary s) i) 13 _ _ (lit< tt)
+    (numbered-before (ltb (daysOf s) (readingBoundary s i)) 6 _ _ (lit< tt)
+    (numbered-before (somewhere (λ j. ltb (readingCount s i) (readingCount s j)) i) 8 _ _ (lit< tt)
+    (numbered (ltb energyMost (readingCount s i - readingCount s 0)) 9 _ (lit< tt)))))
+
+cut-numbered : (s : List ℕ) (i : ℕ) → Numbered (cutFault s i)
+cut-numbered s i =
+    numbered-before (ltb (length s) (cutOffset s i + 2)) 13 _ _ (lit< tt)
+    (numbered-before (failsToRise (cutBoundary s) i) 13 _ _ (lit< tt)
+    (numbered (ltb (daysOf s) (cutBoundary s i)) 6 _ (lit< tt)))
+
+taken : (f : Fault) (number : ℕ) → Numbered f → faultNumber f ≡ number → (f ≡ noFault) ↔ (number ≡ 0)
+taken f number some is = (λ none. sym is ∙ ap faultNumber none, λ zero. some (is ∙ zero))
+
+as-agreed : FileAgrees → ItemTaken
+as-agreed agrees =
+    record {
+      reading = λ s i e f long rises. taken _ _ (reading-numbered s i) (agrees .reading s i e f long rises);
+      cut = λ s i e f long rises. taken _ _ (cut-numbered s i) (agrees .cut s i e f long rises);
+    }
+
+pub item-taken : ItemTaken
+item-taken = as-agreed file-agrees

@@ -71,6 +71,18 @@ pub number-before : (b : Bool) (number place : ℕ) (g : Fault) → faultNumber 
 number-before true number place g = refl
 number-before false number place g = refl
 
+-- a fault of number 0 is none
+abbrev pub Numbered : Fault → Type 0
+Numbered f = faultNumber f ≡ 0 → f ≡ noFault
+
+pub numbered : (b : Bool) (number place : ℕ) → 0 < number → Numbered (fault b number place)
+numbered true number place l e = absurd (omega arith)
+numbered false number place l e = refl
+
+pub numbered-before : (b : Bool) (number place : ℕ) (g : Fault) → 0 < number → Numbered g → Numbered (fault b number place before g)
+numbered-before true number place g l rest e = absurd (omega arith)
+numbered-before false number place g l rest e = rest e
+
 -- a condition that does not hold, and what comes after it
 pub passes : (b : Bool) (number place : ℕ) (g : Fault) → (fault b number place before g) ≡ noFault → (b ≡ false) × (g ≡ noFault)
 passes b number place g e =

@@ -3,6 +3,7 @@
 use Prim.Native.Nat.{ℕ, _+_, _≤_}
 use mathlib.Core.Path.{_≡_}
 use mathlib.Core.Bool.{false}
+use mathlib.Core.Logic.{_↔_}
 use mathlib.Core.List.{List}
 use lib.Dec.{ltb}
 use lib.IntN.{pos}
@@ -46,3 +47,12 @@ pub record FileAgrees : Type 0 where
   pub cut : (s : List ℕ) (i : ℕ) → beforeCutsFault s ≡ noFault → firstFault (cutFault s) i ≡ noFault →
       cutOffset s i + 2 ≤ length s → failsToRise (cutBoundary s) i ≡ false →
       faultNumber (cutFault s i) ≡ cutNumber (withCuts s i) (cutBoundary s i)
+
+-- so such an item has no fault of its own exactly where the call takes it (proofs/Agreed, `item-taken`)
+pub record ItemTaken : Type 0 where
+  pub reading : (s : List ℕ) (i : ℕ) → spanFault s ≡ noFault → firstFault (readingFault s) i ≡ noFault →
+      readingOffset s i + 10 ≤ length s → failsToRise (readingBoundary s) i ≡ false →
+      (readingFault s i ≡ noFault) ↔ (readingNumber (withReadings s i) (readingBoundary s i) (readingCount s i) ≡ 0)
+  pub cut : (s : List ℕ) (i : ℕ) → beforeCutsFault s ≡ noFault → firstFault (cutFault s) i ≡ noFault →
+      cutOffset s i + 2 ≤ length s → failsToRise (cutBoundary s) i ≡ false →
+      (cutFault s i ≡ noFault) ↔ (cutNumber (withCuts s i) (cutBoundary s i) ≡ 0)

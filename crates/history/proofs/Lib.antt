@@ -4,3 +4,4 @@ pub mod EveryList
 pub mod Opens
 pub mod Theorem
 pub mod Ties
+pub mod Meaning

@@ -98,7 +98,7 @@ module _ (w : List ℕ) (opened : Account) (start : Holds w nothing opened) (es 
         shares =
             λ before m out g i below.
             let by = given before m out g in
-            rw (by .writes) (shared w (standing w before) (by .valid) (by .two) i (rw (by .counts) at below));
+            rw (by .writes) (shared w (standing w before) (by .valid) (by .two) i (omega arith));
         energies =
             λ before m out g p q b adj low high mark.
             let by = given before m out g in
@@ -109,7 +109,7 @@ module _ (w : List ℕ) (opened : Account) (start : Holds w nothing opened) (es 
             let by₂ = given before₂ m₂ out₂ g₂ in
             rw (by₁ .counts, by₁ .writes, by₂ .counts, by₂ .writes)
             (same-energy w (standing w before₁) (standing w before₂) (by₁ .valid) (by₂ .valid) p q b adj₁ adj₂ same-p same-q
-            (by₁ .inside q (adj₁ .at-q)) low high mark₁ mark₂);
+            (by₁ .inside q (adj₁ .at-q)) (omega arith) (omega arith) mark₁ mark₂);
       }
 
 opened-holds : (before opened : Account) → OpenMet before 0 opened → Holds (before .weights) nothing opened

@@ -3,3 +3,4 @@ pub mod History
 pub mod Run
 pub mod Demand3
 pub mod Tied
+pub mod Meaning

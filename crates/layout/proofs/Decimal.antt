@@ -1,10 +1,10 @@
 -- The decimal digits of a number (Case file, the program's output): more places than a number needs change nothing, and no more digits are printed
 -- than hold it. Assumes nothing.
-use Prim.Native.Nat.{ℕ, zero, suc, _*_, _/_, _%_, _^_, _≤_, _<_}
+use Prim.Native.Nat.{ℕ, zero, suc, _-_, _*_, _/_, _%_, _^_, _≤_, _<_}
 use mathlib.Core.Path.{_≡_, refl, sym, ap, _∙_}
 use mathlib.Core.Bool.{Bool, true, false, cond}
 use mathlib.Core.List.{List, [], _∷_, _++_}
-use native.Mathlib.Nat.{div-lt-iff-lt-mul, le-div-iff-mul-le, pow-suc}
+use native.Mathlib.Nat.{div-lt-iff-lt-mul, le-div-iff-mul-le, pow-suc, pow-le-pow-right}
 use native.Mathlib.Numerals.{add-one, sub-one}
 use native.Mathlib.Omega.{arith}
 use borrow.Author.Tests.{lt-ltb, le-ltb, ltb-true, ltb-false}
@@ -67,6 +67,18 @@ digits-fewest (suc more) n l = go (ltb n 10) refl (digits more (n / 10)) (digits
           λ h. rw sub-one (low (length before) (ltb-false n 10 e) f),
         )
 
+-- of two fewest numbers of digits none is less than the other
+not-fewer : (n j k : ℕ) → Fewest n j → Fewest n k → j < k → ⊥
+not-fewer n j k few many less =
+    let below : j ≤ k - 1 = omega arith in
+    omega (arith, few .1, many .2 (omega (arith, few .0)), pow-le-pow-right {n = 10} (lit< tt) below)
+
+one-fewest : (n j k : ℕ) → Fewest n j → Fewest n k → j ≡ k
+one-fewest n j k f g =
+    let low : j < k → ⊥ = not-fewer n j k f g in
+    let high : k < j → ⊥ = not-fewer n k j g f in
+    omega arith
+
 pub fewest-digits : FewestDigits
 unfolding decimal
-fewest-digits n l = digits-fewest 19 n (omega (arith, l))
+fewest-digits n l = let fewest = digits-fewest 19 n (omega (arith, l)) in (fewest, λ k f. one-fewest n k _ f fewest)

@@ -29,9 +29,10 @@ decimal n = digits 19 n
 abbrev pub Fewest : ℕ → ℕ → Type 0
 Fewest n k = (1 ≤ k) × (n < 10 ^ k) × (1 < k → 10 ^ (k - 1) ≤ n)
 
--- a number of 64 bits is printed with the fewest digits, so no leading zero but in 0 itself (proofs/Decimal, `fewest-digits`)
+-- a number of 64 bits is printed with the fewest digits, so no leading zero but in 0 itself; no other number of digits is the fewest
+-- (proofs/Decimal, `fewest-digits`)
 abbrev pub FewestDigits : Type 0
-FewestDigits = (n : ℕ) → n < 2 ^ 64 → Fewest n (length (decimal n))
+FewestDigits = (n : ℕ) → n < 2 ^ 64 → Fewest n (length (decimal n)) × ((k : ℕ) → Fewest n k → k ≡ length (decimal n))
 
 abbrev pub isDigit : ℕ → Bool
 isDigit x = leb 48 x && leb x 57

@@ -5,5 +5,6 @@ pub mod Quotient
 pub mod Root
 pub mod AtMostOne
 mod Enclosing
+mod Ratio
 mod Steps
 pub mod Laws

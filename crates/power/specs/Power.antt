@@ -2,6 +2,7 @@
 -- The profile's proofs open only `one` and `quotient`, and else cite this crate's laws.
 use mathlib.Core.Path.{_≡_}
 use mathlib.Core.Bool.{true, false, cond}
+use mathlib.Core.Logic.{_↔_}
 use Prim.Native.Nat.{ℕ, zero, suc, _+_, _-_, _*_, _/_, _%_, _^_, _≤_, _<_}
 use lib.Dec.{ltb, eqb}
 use Rattle.power.specs.declared.rounded.Rounding.{Rounding}
@@ -121,6 +122,11 @@ AtMost p N M C = p ^ (10 ^ 7) * M ^ C ≤ N ^ C * one ^ (10 ^ 7)
 
 unfoldable pub AtLeast : (p N M C : ℕ) → Type 0
 AtLeast p N M C = N ^ C * one ^ (10 ^ 7) ≤ p ^ (10 ^ 7) * M ^ C
+
+-- at C = 10^7 the exact power is N/M itself, and they say that p/one is at most that, and at least: p × M ≤ N × one, and N × one ≤ p × M
+-- (proofs/Ratio, `at-the-ratio`)
+abbrev pub AtTheRatio : Type 0
+AtTheRatio = (p N M : ℕ) → (AtMost p N M (10 ^ 7) ↔ (p * M ≤ N * one)) × (AtLeast p N M (10 ^ 7) ↔ (N * one ≤ p * M))
 
 pub record Encloses (N M C low high : ℕ) : Type 0 where
   pub below : AtMost low N M C

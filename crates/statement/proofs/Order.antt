@@ -11,15 +11,18 @@ use Rattle.common.specs.Below.{howMany}
 use Rattle.account.specs.Stands.{Readings, firstReading, lastReading}
 use Rattle.account.specs.Account.{Account, shown, sound}
 use Rattle.common.proofs.Below.{IsFirst, IsLast, found, both, clash, refuted, first-found, first-is, last-found, last-is}
-use Rattle.account.proofs.Pairs.{pairs}
+use Rattle.account.proofs.Pairs.{pairs, neighbours}
 use Rattle.account.proofs.Sound.{sound-parts}
 use Rattle.statement.specs.Split.{earlier, later}
 use Rattle.statement.specs.Shares.{Adjacent}
-use Rattle.statement.specs.Facts.{Valid}
+use Rattle.statement.specs.Facts.{Valid, EveryValid}
 use Rattle.statement.proofs.Sums.{weight-positive}
 
 pub valid-of-sound : (a : Account) → sound a ≡ true → Valid (a .weights) (shown a .readings)
 valid-of-sound a h = let s = sound-parts a h in record { weights = weight-positive (a .weights) (s .weights); rises = s .order }
+
+pub every-valid : EveryValid
+every-valid w r above rises = record { weights = above; rises = neighbours r (suc (length w)) (λ p q le lt. rises p q le (omega arith)) }
 
 -- p and q are the adjacent readings with p < k ≤ q, in an account of n days
 pub record LiesBetween (n : ℕ) (r : Readings) (p q k : ℕ) : Type 0 where

@@ -10,10 +10,10 @@ use lib.ListN.{length, getD, length-append}
 use borrow.Author.Tests.{le-leb, lt-leb, lt-ltb}
 use Rattle.common.specs.Below.{howMany, last}
 use Rattle.account.specs.Stands.{Stands, firstReading, lastReading}
-use Rattle.common.proofs.Below.{first-least, last-found, last-most, last-here, last-below}
-use Rattle.statement.specs.Parts.{Part, marked, endsPart, partTo, partsBelow, partsOf}
+use Rattle.common.proofs.Below.{clash, first-least, last-found, last-most, last-here, last-below}
+use Rattle.statement.specs.Parts.{Part, Outputs, marked, endsPart, partTo, partsBelow, partsOf}
 use Rattle.statement.specs.Shares.{Adjacent}
-use Rattle.statement.specs.Facts.{boundsPart, PartsSuccessive}
+use Rattle.statement.specs.Facts.{boundsPart, Successive, PartsSuccessive, OneSuccession}
 use Rattle.statement.proofs.Order.{Read, some-read}
 use Rattle.statement.proofs.Parts.{Ends, is-end, below-part, below-none, none-until, none-more, noPart, written-at, each-written}
 
@@ -144,3 +144,24 @@ successive w s two =
       each = each-written w s (λ from to wh. Adjacent (marked s) from to) (each-adjacent w s is);
       how-many = number;
     }
+
+-- after a boundary one is the next
+next-one : (at : ℕ → Bool) (p q₁ q₂ : ℕ) → Adjacent at p q₁ → Adjacent at p q₂ → q₁ ≡ q₂
+next-one at p q₁ q₂ a b =
+    let low : q₁ < q₂ → ⊥ = λ h. clash (a .at-q) (b .none-between q₁ (a .ordered) h) in
+    let high : q₂ < q₁ → ⊥ = λ h. clash (b .at-q) (a .none-between q₂ (b .ordered) h) in
+    omega arith
+
+module _ (n : ℕ) (s : Stands) (o₁ o₂ : Outputs) (m : ℕ) (a : Successive n s o₁ m) (b : Successive n s o₂ m) where
+  ends-alike : (i : ℕ) → i < m → getD (o₁ .from) i 0 ≡ getD (o₂ .from) i 0 → getD (o₁ .to) i 0 ≡ getD (o₂ .to) i 0
+  ends-alike i h same = next-one (marked s) _ _ _ (rw same at (a .each i h)) (b .each i h)
+
+  starts-alike : (i : ℕ) → i < m → getD (o₁ .from) i 0 ≡ getD (o₂ .from) i 0
+  starts-alike zero h = a .starts ∙ sym (b .starts)
+  starts-alike (suc i) h = a .joined i h ∙ ends-alike i (omega arith) (starts-alike i (omega arith)) ∙ sym (b .joined i h)
+
+pub one-succession : OneSuccession
+one-succession n s o₁ o₂ m₁ m₂ a b =
+    let same : m₁ ≡ m₂ = omega (arith, a .how-many, b .how-many) in
+    let c : Successive n s o₁ m₂ = rw same at a in
+    (same, λ i h. let below : i < m₂ = omega arith in let start = starts-alike n s o₁ o₂ m₂ c b i below in (start, ends-alike n s o₁ o₂ m₂ c b i below start))

@@ -18,7 +18,7 @@ use Rattle.account.specs.Account.{goodWeights, goodMarks, zeroCounts}
 use Rattle.account.specs.Refusals.{outOfOrder}
 use Rattle.statement.specs.Split.{weightSum, roundedShare, between, has}
 use Rattle.statement.specs.Parts.{partsBelow}
-use Rattle.vectors.specs.Starred.{Starred}
+use Rattle.vectors.specs.Starred.{Starred, EveryLine}
 
 low : (c : ℕ) → powerLow one c ≡ 2 ^ 30
 unfolding one
@@ -43,3 +43,6 @@ of-sum w sum = rw sum
 pub starred : Starred
 unfolding inRange temperatureOf nearest everywhere somewhere howMany first last neverFalling lastLessFirst goodWeights goodMarks zeroCounts outOfOrder weightSum roundedShare between has partsBelow sumOf listOf
 starred = (((refl, refl, refl), (refl, refl, refl), (refl, refl, refl)), (((refl, refl, refl), (refl, refl, refl), (refl, refl, refl), (refl, refl, refl), (refl, refl, refl)), ((low, high, low-whole, high-whole), ((refl, refl, refl), (((refl, refl, refl), (refl, refl, refl), (refl, refl, refl)), ((of-sum, refl, refl), ((refl, refl, refl, refl), ((refl, refl, refl), tt))))))))
+
+pub every-line : EveryLine
+every-line = (refl, λ (a, (b, (c, (d, (e, (f, (g, (h, none)))))))). (a, b, c, d, e, f, g, h))

@@ -84,43 +84,71 @@ equal n = replicate n 1_000_000
 abbrev sixty : ℕ → List ℕ
 sixty z = (z / 60 + z % 60) ∷ replicate 59 (z / 60)
 
-abbrev pub cases : List (Type 0)
-cases =
-    -- "Today-first means 0, 0, 0, 7 give 0; 0, 0, 0, 8 give 1; -5,000 three times and -4,999 give -5,000."
-    (Gives (pos 0) (pos 0) (pos 0) (pos 7) (pos 0) ×
+-- ---- the paper's eight starred lines
+
+-- "Today-first means 0, 0, 0, 7 give 0; 0, 0, 0, 8 give 1; -5,000 three times and -4,999 give -5,000."
+abbrev allocation : Type 0
+allocation =
+    Gives (pos 0) (pos 0) (pos 0) (pos 7) (pos 0) ×
     Gives (pos 0) (pos 0) (pos 0) (pos 8) (pos 1) ×
-    Gives (minus 5_000) (minus 5_000) (minus 5_000) (minus 4_999) (minus 5_000)) ∷
-    -- "Mean 3,999 passes, 4,000 is 4."
-    (Gives (pos 3_999) (pos 3_999) (pos 3_999) (pos 3_999) (pos 3_999) ×
+    Gives (minus 5_000) (minus 5_000) (minus 5_000) (minus 4_999) (minus 5_000)
+
+-- "Mean 3,999 passes, 4,000 is 4."
+abbrev warmest : Type 0
+warmest =
+    Gives (pos 3_999) (pos 3_999) (pos 3_999) (pos 3_999) (pos 3_999) ×
     Refused (pos 4_000) (pos 0) (pos 0) (pos 0) 0 ×
     Refused (pos 0) (pos 4_000) (pos 0) (pos 0) 1 ×
     Refused (pos 0) (pos 0) (pos 4_000) (pos 0) 2 ×
-    Refused (pos 0) (pos 0) (pos 0) (pos 4_000) 3) ∷
-    -- "r equal to one: the power is 2^30, low and high." So it is where N = M, whatever they are and whatever the exponent.
-    (((c : ℕ) → powerLow one c ≡ 2 ^ 30) ×
+    Refused (pos 0) (pos 0) (pos 0) (pos 4_000) 3
+
+-- "r equal to one: the power is 2^30, low and high." So it is where N = M, whatever they are and whatever the exponent.
+abbrev ratioOne : Type 0
+ratioOne =
+    ((c : ℕ) → powerLow one c ≡ 2 ^ 30) ×
     ((c : ℕ) → powerHigh one c ≡ 2 ^ 30) ×
     ((N C : ℕ) → 0 < N → pLow N N C ≡ 2 ^ 30) ×
-    ((N C : ℕ) → 0 < N → pHigh N N C ≡ 2 ^ 30)) ∷
-    -- "25,424,000 Wh over weights 9,870 and 21,478: 8,004,813 and 17,419,187 (document 002's example)."
-    Split 25_424_000 (9_870 ∷ 21_478 ∷ []) (8_004_813 ∷ 17_419_187 ∷ []) ∷
-    -- "100 over three equal days: 33, 34, 33. 1 over two: 1, 0. 0 over two: 0, 0."
-    (Split 100 (equal 3) (33 ∷ 34 ∷ 33 ∷ []) ×
+    ((N C : ℕ) → 0 < N → pHigh N N C ≡ 2 ^ 30)
+
+-- "25,424,000 Wh over weights 9,870 and 21,478: 8,004,813 and 17,419,187 (document 002's example)."
+abbrev twoWeights : Type 0
+twoWeights = Split 25_424_000 (9_870 ∷ 21_478 ∷ []) (8_004_813 ∷ 17_419_187 ∷ [])
+
+-- "100 over three equal days: 33, 34, 33. 1 over two: 1, 0. 0 over two: 0, 0."
+abbrev equalDays : Type 0
+equalDays =
+    Split 100 (equal 3) (33 ∷ 34 ∷ 33 ∷ []) ×
     Split 1 (equal 2) (1 ∷ 0 ∷ []) ×
-    Split 0 (equal 2) (0 ∷ 0 ∷ [])) ∷
-    -- "958,000 Wh with Z = 379,356,309: 25,253 (document 000)." So it is for all weights with that sum, and there are such that pass.
-    (((w : List ℕ) → sumOf w ≡ 379_356_309 → customerValue 958_000 w ≡ 25_253) ×
+    Split 0 (equal 2) (0 ∷ 0 ∷ [])
+
+-- "958,000 Wh with Z = 379,356,309: 25,253 (document 000)." So it is for all weights with that sum, and there are such that pass.
+abbrev customer : Type 0
+customer =
+    ((w : List ℕ) → sumOf w ≡ 379_356_309 → customerValue 958_000 w ≡ 25_253) ×
     (sumOf (sixty 379_356_309) ≡ 379_356_309) ×
-    (customerNumber 958_000 (sixty 379_356_309) ≡ 0)) ∷
-    -- "Value 25,253, weight 1,000,000: 2,525 Wh. Value 1,000,000, weight 5: 1 Wh."
-    ((amountNumber 25_253 1_000_000 ≡ 0) ×
+    (customerNumber 958_000 (sixty 379_356_309) ≡ 0)
+
+-- "Value 25,253, weight 1,000,000: 2,525 Wh. Value 1,000,000, weight 5: 1 Wh."
+abbrev amounts : Type 0
+amounts =
+    (amountNumber 25_253 1_000_000 ≡ 0) ×
     (dailyAmount 25_253 1_000_000 ≡ 2_525) ×
     (amountNumber 1_000_000 5 ≡ 0) ×
-    (dailyAmount 1_000_000 5 ≡ 1)) ∷
-    -- "Counts 0 and 2,000,000,000 stand; 2,000,000,001 is 9."
-    ((reading (reading (opened (equal 1)) 0 0) 1 2_000_000_000 .marks ≡ 2 ∷ 2 ∷ []) ×
+    (dailyAmount 1_000_000 5 ≡ 1)
+
+-- "Counts 0 and 2,000,000,000 stand; 2,000,000,001 is 9."
+abbrev mostEnergy : Type 0
+mostEnergy =
+    (reading (reading (opened (equal 1)) 0 0) 1 2_000_000_000 .marks ≡ 2 ∷ 2 ∷ []) ×
     (reading (reading (opened (equal 1)) 0 0) 1 2_000_000_000 .counts ≡ 0 ∷ 2_000_000_000 ∷ []) ×
-    (readingNumber (reading (opened (equal 1)) 0 0) 1 2_000_000_001 ≡ 9)) ∷
-    []
+    (readingNumber (reading (opened (equal 1)) 0 0) 1 2_000_000_001 ≡ 9)
+
+abbrev pub cases : List (Type 0)
+cases = allocation ∷ warmest ∷ ratioOne ∷ twoWeights ∷ equalDays ∷ customer ∷ amounts ∷ mostEnergy ∷ []
 
 abbrev pub Starred : Type 0
 Starred = Holds cases
+
+-- the table has eight rows, and each of the paper's lines follows from the fact (proofs/Starred, `every-line`)
+abbrev pub EveryLine : Type 0
+EveryLine = (length cases ≡ 8) × (Starred → allocation × warmest × ratioOne × twoWeights × equalDays × customer × amounts × mostEnergy)

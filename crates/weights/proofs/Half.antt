@@ -4,14 +4,13 @@ use Prim.Native.Nat.{ℕ, _+_, _*_}
 use native.Mathlib.Omega.{arith}
 use lib.IntN.{ℤ, pos, _+ℤ_, _*ℤ_}
 use Rattle.rounding.proofs.Parts.{above, below, less-sum, less-product}
-use Rattle.weights.specs.Temperature.{weighted, NoHalf}
+use Rattle.weights.specs.Temperature.{NoHalf}
 
 even-not-odd : (m n : ℕ) → 2 * m ≡ 2 * n + 1 → ⊥
 even-not-odd m n e = omega (arith, e)
 
 pub no-half : NoHalf
-no-half a b c d q e =
-    let x : ℤ = weighted a b c d in
+no-half x q e =
     let odd : ℤ = pos 2 *ℤ q +ℤ pos 1 in
     even-not-odd (above x + 15 * below q) (below x + 15 * above q + 7)
     (omega (

@@ -23,9 +23,9 @@ divisor = 15
 unfoldable pub temperatureOf : ℤ → ℤ → ℤ → ℤ → ℤ
 temperatureOf a b c d = nearestℤ (weighted a b c d) divisor
 
--- "No half can occur": no such sum over 15 is an odd number over 2 (proofs/Half, `no-half`)
+-- "No half can occur": no integer x over 15 is an odd number over 2, whatever sum of means x is (proofs/Half, `no-half`)
 abbrev pub NoHalf : Type 0
-NoHalf = (a b c d q : ℤ) → pos 2 *ℤ weighted a b c d ≡ (pos 2 *ℤ q +ℤ pos 1) *ℤ pos divisor → ⊥
+NoHalf = (x q : ℤ) → pos 2 *ℤ x ≡ (pos 2 *ℤ q +ℤ pos 1) *ℤ pos divisor → ⊥
 
 -- the temperature of means in range is in range, so that every day of a span has a weight (proofs/Raised, `temperature-in-range`)
 abbrev pub TemperatureInRange : Type 0
