@@ -1,5 +1,5 @@
 -- What the words of demand 3 mean, from the other side: `Meaning` of specs/. Assumes nothing.
-use Prim.Native.Nat.{ℕ, zero, suc, _≤_, _<_}
+use Prim.Native.Nat.{ℕ, zero, suc, _*_, _≤_, _<_}
 use mathlib.Core.Path.{_≡_, refl, sym, _∙_}
 use mathlib.Core.Bool.{true, false}
 use mathlib.Core.List.{List, []}
@@ -97,27 +97,29 @@ module _ (left : ℕ → Account) (lent₁ lent₂ out₁ out₂ : Outputs) (m�
   unfolding standsFrom outOfOrder somewhere lastLessFirst first last
   summed = d .sums before₂ m₂ out₂ given₂
 
-  last-shared : Shared threeDays twoReadings (getD (out₂ .from) 2 0) (getD (out₂ .to) 2 0) (getD (out₂ .wh) 2 0)
+  each-shared : (i : ℕ) → i < 3 → Shared threeDays twoReadings (getD (out₂ .from) i 0) (getD (out₂ .to) i 0) (getD (out₂ .wh) i 0)
   unfolding standsFrom outOfOrder somewhere lastLessFirst first last partsBelow
-  last-shared = let three : m₂ ≡ 3 = d .statements before₂ m₂ out₂ given₂ .0 in d .shares before₂ m₂ out₂ given₂ 2 (omega arith)
+  each-shared i below = let three : m₂ ≡ 3 = d .statements before₂ m₂ out₂ given₂ .0 in d .shares before₂ m₂ out₂ given₂ i (omega arith)
 
-  a-third : energy out₁ 0 1 m₁ ≡ 33
-  unfolding standsFrom outOfOrder somewhere lastLessFirst first last weightSum nearest
-  a-third = d .energies before₁ m₁ out₁ given₁ 0 3 1 neighbours (omega arith) (omega arith) refl
+  nearest-at : (b : ℕ) → b ≤ 3 → marked (standing threeDays before₁) b ≡ true → energy out₁ 0 b m₁ ≡ nearest (100 * weightSum threeDays 0 b) (weightSum threeDays 0 3)
+  unfolding standsFrom outOfOrder somewhere lastLessFirst first last
+  nearest-at b upto = d .energies before₁ m₁ out₁ given₁ 0 3 b neighbours (omega arith) (omega arith)
 
   same-at : (b : ℕ) → b ≤ 3 → marked (standing threeDays before₁) b ≡ true → marked (standing threeDays before₂) b ≡ true → energy out₁ 0 b m₁ ≡ energy out₂ 0 b m₂
   unfolding standsFrom outOfOrder somewhere lastLessFirst first last
-  same-at b upto = d .boundaries before₁ m₁ out₁ given₁ before₂ m₂ out₂ given₂ 0 3 b neighbours neighbours refl refl (omega arith) upto
+  same-at b upto = d .boundaries before₁ m₁ out₁ given₁ before₂ m₂ out₂ given₂ 0 3 b neighbours neighbours refl refl (omega arith) (omega arith)
 
   pub said : Said m₁ m₂ out₁ out₂
-  unfolding standsFrom outOfOrder somewhere lastLessFirst first last
+  unfolding standsFrom outOfOrder somewhere lastLessFirst first last weightSum nearest
   said =
       record {
         sum = summed;
-        last-near = last-shared;
-        third = a-third;
-        same-at-cut = same-at 1 (omega arith) refl refl;
+        near = each-shared;
+        at-first = nearest-at 0 (omega arith) refl;
+        at-cut = nearest-at 1 (omega arith) refl;
+        at-last = nearest-at 3 (omega arith) refl;
         same-at-first = same-at 0 (omega arith) refl refl;
+        same-at-cut = same-at 1 (omega arith) refl refl;
         same-at-last = same-at 3 (omega arith) refl refl;
       }
 

@@ -102,7 +102,7 @@ module _ (w : List ℕ) (opened : Account) (start : Holds w nothing opened) (es 
         energies =
             λ before m out g p q b adj low high mark.
             let by = given before m out g in
-            rw (by .counts, by .writes) (energy-nearest w (standing w before) (by .valid) p q b adj (by .inside q (adj .at-q)) low high mark);
+            rw (by .counts, by .writes) (energy-nearest w (standing w before) (by .valid) p q b adj (by .inside q (adj .at-q)) (omega arith) (omega arith) mark);
         boundaries =
             λ before₁ m₁ out₁ g₁ before₂ m₂ out₂ g₂ p q b adj₁ adj₂ same-p same-q low high mark₁ mark₂.
             let by₁ = given before₁ m₁ out₁ g₁ in

@@ -1,6 +1,6 @@
 -- What the words of demand 3 mean, from the other side: every real event, account and list meets what `Demand3` and `Claim` ask, and what they say
 -- is put to use. (proofs/Meaning: the claims' names in small letters)
-use Prim.Native.Nat.{ℕ, _+_}
+use Prim.Native.Nat.{ℕ, _+_, _<_}
 use mathlib.Core.Path.{_≡_}
 use mathlib.Core.List.{List, [], _∷_, _++_, map}
 use lib.IntN.{ℤ}
@@ -63,13 +63,15 @@ twoReadings = withReading (withReading (nothing .readings) 0 500) 3 600
 pub record Said (m₁ m₂ : ℕ) (out₁ out₂ : Outputs) : Type 0 where
   -- the parts add up to 100
   pub sum : total out₂ m₂ ≡ 100
-  -- the last part too is near its share
-  pub last-near : Shared threeDays twoReadings (getD (out₂ .from) 2 0) (getD (out₂ .to) 2 0) (getD (out₂ .wh) 2 0)
-  -- up to the cut at 1 the energy is a third
-  pub third : energy out₁ 0 1 m₁ ≡ 33
-  -- and it is the same in both statements, up to that cut as up to each reading
-  pub same-at-cut : energy out₁ 0 1 m₁ ≡ energy out₂ 0 1 m₂
+  -- each of the three is near its share
+  pub near : (i : ℕ) → i < 3 → Shared threeDays twoReadings (getD (out₂ .from) i 0) (getD (out₂ .to) i 0) (getD (out₂ .wh) i 0)
+  -- the energy up to the first reading is 0, up to the cut at 1 a third, and up to the last reading all
+  pub at-first : energy out₁ 0 0 m₁ ≡ 0
+  pub at-cut : energy out₁ 0 1 m₁ ≡ 33
+  pub at-last : energy out₁ 0 3 m₁ ≡ 100
+  -- and it is the same in both statements
   pub same-at-first : energy out₁ 0 0 m₁ ≡ energy out₂ 0 0 m₂
+  pub same-at-cut : energy out₁ 0 1 m₁ ≡ energy out₂ 0 1 m₂
   pub same-at-last : energy out₁ 0 3 m₁ ≡ energy out₂ 0 3 m₂
 
 -- (`two-statements`)
