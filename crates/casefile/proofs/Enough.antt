@@ -1,9 +1,10 @@
 -- Enough bytes (Case file): of a longer file the reader's verdict looks at no byte from 16,384 on. Assumes nothing.
-use Prim.Native.Nat.{ℕ, zero, suc, _+_, _*_, _-_, _≤_, _<_}
+use Prim.Native.Nat.{ℕ, zero, suc, _+_, _-_, _≤_, _<_}
 use mathlib.Core.Path.{_≡_, refl, sym, _∙_, ap}
 use mathlib.Core.Bool.{Bool, not, _||_}
 use mathlib.Core.List.{List}
 use native.Mathlib.Omega.{arith}
+use native.Mathlib.Nat.{le-refl}
 use native.Mathlib.Decide.{decLt}
 use borrow.Author.Tests.{le-ltb, lt-ltb}
 use lib.Dec.{ltb, leb}
@@ -12,13 +13,13 @@ use lib.Seq.{getD-take, length-take-le, take-all}
 use Rattle.profile.specs.Limits.{profileCount, inRange, spanMost, badSpan}
 use Rattle.common.specs.Below.{somewhere}
 use Rattle.account.specs.Account.{energyMost}
-use Rattle.casefile.specs.Bytes.{little, number16, number64, signed}
-use Rattle.casefile.specs.Case.{meansLength, meanOffset, daysOf, readingsOffset, readingsLength, readingOffset, readingBoundary, readingCount, cutsOffset, cutsLength, cutOffset, cutBoundary, endOf}
-use Rattle.casefile.specs.Faults.{Fault, noFault, refused, _before_, fault, firstFault, early, failsToRise, meanFault, readingFault, cutFault, faultOf, headFault, meansFault, readingsFault, cutsFault, spanFault, beforeCutsFault}
+use Rattle.casefile.specs.Bytes.{little, number16, signed}
+use Rattle.casefile.specs.Case.{itemAt, endAt, boundaryAt, readingCountAt, meansLength, daysOf, readingsOffset, readingsLength, cutsOffset, cutsLength, endOf}
+use Rattle.casefile.specs.Faults.{Fault, noFault, refused, _before_, fault, firstFault, early, failsToRise, firstBytesFault, meanFaultAt, boundaryFault, cutFaultAt, readingFaultAt, sectionFault, leftOver, itemsFault, meanFault, headFault, readingsFault, cutsFault, spanFault, beforeCutsFault, sectionsFault, faultOf}
 use Rattle.casefile.specs.Length.{fileMost, bytesRead, EnoughBytes}
+use Rattle.casefile.proofs.Numbers.{number-same}
 use Rattle.casefile.proofs.Faults.{none-both, passes}
-use Rattle.casefile.proofs.Chained.{in-order}
-use Rattle.casefile.proofs.Weighing.{head-none}
+use Rattle.casefile.proofs.Weighing.{means-count-none}
 use Rattle.casefile.proofs.Longest.{few-readings, few-cuts}
 
 -- the first fault of two is the same where each is, the second only needed where the first is none
@@ -80,122 +81,103 @@ record Alike (s t : List ℕ) : Type 0 where
 
 module _ {s t : List ℕ} (a : Alike s t) where
   number : (width at : ℕ) → at + width ≤ bytesRead → little width s at ≡ little width t at
-  unfolding little
-  number zero at l = refl
-  number (suc width) at l = λ k. a .same at (omega arith) k + 256 * number width (at + 1) (omega arith) k
+  number width at l = number-same width s t at at (λ i h. a .same (at + i) (omega arith))
 
   -- neither ends early within what is read
-  whole : (x y : ℕ) → x ≤ bytesRead → y ≤ bytesRead → early s x ≡ early t y
-  whole x y l h = simp (le-ltb (length s) x (omega (arith, a .long)), le-ltb (length t) y (omega (arith, a .long-too)))
+  whole : (x : ℕ) → x ≤ bytesRead → early s x ≡ early t x
+  whole x l = simp (le-ltb (length s) x (omega (arith, a .long)), le-ltb (length t) x (omega (arith, a .long-too)))
 
   head-same : headFault s ≡ headFault t
   head-same = λ k.
-      whole 1 1 (omega arith) (omega arith) k before
+      (whole 1 (omega arith) k before
       fault (leb profileCount (a .same 0 (omega arith) k)) 1 0 before
-      whole 2 2 (omega arith) (omega arith) k before
-      fault (ltb 6 (a .same 1 (omega arith) k)) 2 1 before
-      whole 4 4 (omega arith) (omega arith) k before
+      whole 2 (omega arith) k before
+      fault (ltb 6 (a .same 1 (omega arith) k)) 2 1) before
+      whole 4 (omega arith) k before
       fault (badSpan (number 2 2 (omega arith) k - 3)) 3 2
+
+  mean-same : (at i : ℕ) → itemAt 2 at i + 2 ≤ bytesRead → meanFaultAt s at i ≡ meanFaultAt t at i
+  mean-same at i l = λ k.
+      whole (itemAt 2 at i + 2) l k before
+      fault (not (inRange (signed (number 2 (itemAt 2 at i) l k)))) 4 (itemAt 2 at i)
+
+  -- readings and cuts, up to the last that is read whole
+  boundary-same : (width at n i : ℕ) → ((j : ℕ) → j ≤ i → itemAt width at j + 2 ≤ bytesRead) → itemAt width at i + width ≤ bytesRead → boundaryFault width s at n i ≡ boundaryFault width t at n i
+  boundary-same width at n i read l =
+      let same : (j : ℕ) → j ≤ i → boundaryAt width s at j ≡ boundaryAt width t at j = λ j h. number 2 (itemAt width at j) (read j h) in
+      λ k.
+      whole (itemAt width at i + width) l k before
+      fault (falls-same (boundaryAt width s at) (boundaryAt width t at) i same k) 13 (itemAt width at i) before
+      fault (ltb n (same i (le-refl i) k)) 6 (itemAt width at i)
+
+  reading-same : (at n i : ℕ) → itemAt 10 at i + 10 ≤ bytesRead → readingFaultAt s at n i ≡ readingFaultAt t at n i
+  reading-same at n i l =
+      let count : (j : ℕ) → j ≤ i → readingCountAt s at j ≡ readingCountAt t at j = λ j h. number 8 (itemAt 10 at j + 2) (omega arith) in
+      λ k.
+      boundary-same 10 at n i (λ j h. omega arith) l k before
+      fault (some-same (λ j. ltb (readingCountAt s at i) (readingCountAt s at j)) (λ j. ltb (readingCountAt t at i) (readingCountAt t at j)) i (λ j h m. ltb (count i (le-refl i) m) (count j (omega arith) m)) k) 8 (itemAt 10 at i + 2) before
+      fault (ltb energyMost (count i (le-refl i) k - count 0 (omega arith) k)) 9 (itemAt 10 at i + 2)
+
+  -- a section whose items are the same up to one that cannot rise within the span
+  section-same : (at most : ℕ) (f g : ℕ → Fault) → at + 2 ≤ bytesRead → ((i : ℕ) → i < most → f i ≡ g i) → (firstFault f most ≡ noFault → ⊥) → sectionFault s at f ≡ sectionFault t at g
+  section-same at most f g l same h =
+      let items = within-same f g most (number16 s at) same h ∙ ap (firstFault g) (number 2 at l) in
+      λ k. whole (at + 2) l k before items k
 
   means-counted : meansLength s ≡ meansLength t
   means-counted = number 2 2 (omega arith)
 
   module _ (h : headFault s ≡ noFault) where
     span : daysOf s ≤ spanMost
-    span = head-none s h .span .most
+    span = means-count-none s 2 (none-both (firstBytesFault s 0) _ h .1) .1 .most
 
-    mean-same : (i : ℕ) → i < meansLength s → meanFault s i ≡ meanFault t i
-    mean-same i l = λ k.
-        whole (meanOffset i + 2) (meanOffset i + 2) (omega (arith, span)) (omega (arith, span)) k before
-        fault (not (inRange (signed (number 2 (meanOffset i) (omega (arith, span)) k)))) 4 (meanOffset i)
+    means-same : itemsFault s 2 (meanFault s) ≡ itemsFault t 2 (meanFault t)
+    means-same = first-same (meanFault s) (meanFault t) (meansLength s) (λ i l. mean-same 2 i (omega (arith, span))) ∙ ap (firstFault (meanFault t)) means-counted
 
-    means-same : meansFault s ≡ meansFault t
-    means-same = first-same (meanFault s) (meanFault t) (meansLength s) mean-same ∙ ap (firstFault (meanFault t)) means-counted
-
-    -- the readings, up to the one that cannot rise within the span
-    offset : (i : ℕ) → readingOffset s i ≡ readingOffset t i
-    offset i = ap (λ (m : ℕ). meanOffset m + 2 + 10 * i) means-counted
-
-    boundary : (i : ℕ) → i < spanMost + 2 → readingBoundary s i ≡ readingBoundary t i
-    boundary i l = number 2 (readingOffset s i) (omega (arith, span)) ∙ ap (number16 t) (offset i)
-
-    count : (i : ℕ) → i < spanMost + 2 → readingCount s i ≡ readingCount t i
-    count i l = number 8 (readingOffset s i + 2) (omega (arith, span)) ∙ ap (λ (p : ℕ). number64 t (p + 2)) (offset i)
-
-    reading-same : (i : ℕ) → i < spanMost + 2 → readingFault s i ≡ readingFault t i
-    reading-same i l = λ k.
-        whole (readingOffset s i + 10) (readingOffset t i + 10) (omega (arith, span)) (omega (arith, span, offset i)) k before
-        fault (falls-same (readingBoundary s) (readingBoundary t) i (λ j g. boundary j (omega arith)) k) 13 (offset i k) before
-        fault (ltb (means-counted k - 3) (boundary i l k)) 6 (offset i k) before
-        fault (some-same (λ j. ltb (readingCount s i) (readingCount s j)) (λ j. ltb (readingCount t i) (readingCount t j)) i (λ j g n. ltb (count i l n) (count j (omega arith) n)) k) 8 (offset i k + 2) before
-        fault (ltb energyMost (count i l k - count 0 (omega arith) k)) 9 (offset i k + 2)
-
-    readings-counted : readingsLength s ≡ readingsLength t
-    readings-counted = number 2 (readingsOffset s) (omega (arith, span)) ∙ ap (λ (m : ℕ). number16 t (meanOffset m)) means-counted
+    -- the readings, which start at the same offset
+    readings-offset : readingsOffset s ≡ readingsOffset t
+    readings-offset = ap (itemAt 2 2) means-counted
 
     readings-same : readingsFault s ≡ readingsFault t
     readings-same =
-        let items = within-same (readingFault s) (readingFault t) (spanMost + 2) (readingsLength s) reading-same (λ z. omega (arith, span, few-readings s (spanMost + 2) z)) in
-        λ k.
-        whole (readingsOffset s + 2) (readingsOffset t + 2) (omega (arith, span)) (omega (arith, span, means-counted)) k before
-        (items ∙ ap (firstFault (readingFault t)) readings-counted) k
+        section-same (readingsOffset s) (spanMost + 2) _ _ (omega (arith, span)) (λ i l. reading-same (readingsOffset s) (daysOf s) i (omega (arith, span)))
+        (λ z. omega (arith, span, few-readings s (readingsOffset s) (daysOf s) (spanMost + 2) z)) ∙
+        (λ k. sectionFault t (readings-offset k) (readingFaultAt t (readings-offset k) (means-counted k - 3)))
 
     module _ (r : readingsFault s ≡ noFault) where
-      few : readingsLength s ≤ 1097
-      few = omega (arith, span, few-readings s (readingsLength s) (passes (ltb (length s) (readingsOffset s + 2)) 13 (length s) _ r .1))
+      near : cutsOffset s ≤ 13174
+      near = omega (arith, span, few-readings s (readingsOffset s) (daysOf s) (readingsLength s) (passes (ltb (length s) (readingsOffset s + 2)) 13 (length s) _ r .1))
 
       -- the cuts, likewise
       cuts-offset : cutsOffset s ≡ cutsOffset t
-      cuts-offset = offset (readingsLength s) ∙ ap (readingOffset t) readings-counted
-
-      near : cutsOffset s ≤ 13174
-      near = omega (arith, span, few)
-
-      cut-offset : (i : ℕ) → cutOffset s i ≡ cutOffset t i
-      cut-offset i = ap (λ (p : ℕ). p + 2 + 2 * i) cuts-offset
-
-      cut-boundary : (i : ℕ) → i < spanMost + 2 → cutBoundary s i ≡ cutBoundary t i
-      cut-boundary i l = number 2 (cutOffset s i) (omega (arith, near)) ∙ ap (number16 t) (cut-offset i)
-
-      cut-same : (i : ℕ) → i < spanMost + 2 → cutFault s i ≡ cutFault t i
-      cut-same i l = λ k.
-          whole (cutOffset s i + 2) (cutOffset t i + 2) (omega (arith, near)) (omega (arith, near, cuts-offset)) k before
-          fault (falls-same (cutBoundary s) (cutBoundary t) i (λ j g. cut-boundary j (omega arith)) k) 13 (cut-offset i k) before
-          fault (ltb (means-counted k - 3) (cut-boundary i l k)) 6 (cut-offset i k)
-
-      cuts-counted : cutsLength s ≡ cutsLength t
-      cuts-counted = number 2 (cutsOffset s) (omega (arith, near)) ∙ ap (number16 t) cuts-offset
-
-      cut-items : firstFault (cutFault s) (cutsLength s) ≡ firstFault (cutFault t) (cutsLength t)
-      cut-items =
-          within-same (cutFault s) (cutFault t) (spanMost + 2) (cutsLength s) cut-same (λ z. omega (arith, span, few-cuts s (spanMost + 2) z)) ∙
-          ap (firstFault (cutFault t)) cuts-counted
-
-      -- both have bytes left after the last cut, at the same offset
-      ends : endOf s ≡ endOf t
-      ends = cut-offset (cutsLength s) ∙ ap (cutOffset t) cuts-counted
-
-      left-over : firstFault (cutFault s) (cutsLength s) ≡ noFault → fault (ltb (endOf s) (length s)) 13 (endOf s) ≡ fault (ltb (endOf t) (length t)) 13 (endOf t)
-      left-over z =
-          let end : endOf s ≤ fileMost = omega (arith, near, span, few-cuts s (cutsLength s) z) in
-          let both = lt-ltb (endOf s) (length s) (omega (arith, a .long)) ∙ sym (lt-ltb (endOf t) (length t) (omega (arith, a .long-too, ends))) in
-          λ k. fault (both k) 13 (ends k)
+      cuts-offset = ap (itemAt 10 (readingsOffset s)) (number 2 (readingsOffset s) (omega (arith, span))) ∙ ap (endAt 10 t) readings-offset
 
       cuts-same : cutsFault s ≡ cutsFault t
       cuts-same =
-          both-same (early s (cutsOffset s + 2)) _ (whole (cutsOffset s + 2) (cutsOffset t + 2) (omega (arith, near)) (omega (arith, near, cuts-offset)))
-          (λ _. both-same (firstFault (cutFault s) (cutsLength s)) _ cut-items left-over)
+          section-same (cutsOffset s) (spanMost + 2) _ _ (omega (arith, near)) (λ i l. boundary-same 2 (cutsOffset s) (daysOf s) i (λ j h. omega (arith, near)) (omega (arith, near)))
+          (λ z. omega (arith, span, few-cuts s (cutsOffset s) (daysOf s) (spanMost + 2) z)) ∙
+          (λ k. sectionFault t (cuts-offset k) (cutFaultAt t (cuts-offset k) (means-counted k - 3)))
+
+      -- both have bytes left after the last cut, at the same offset
+      left-same : cutsFault s ≡ noFault → leftOver s (endOf s) ≡ leftOver t (endOf t)
+      left-same c =
+          let items = passes (ltb (length s) (cutsOffset s + 2)) 13 (length s) _ c .1 in
+          let end : endOf s ≤ fileMost = omega (arith, near, span, few-cuts s (cutsOffset s) (daysOf s) (cutsLength s) items) in
+          let ends : endOf s ≡ endOf t = ap (itemAt 2 (cutsOffset s)) (number 2 (cutsOffset s) (omega (arith, near))) ∙ ap (endAt 2 t) cuts-offset in
+          let both = lt-ltb (endOf s) (length s) (omega (arith, a .long)) ∙ sym (lt-ltb (endOf t) (length t) (omega (arith, a .long-too, ends))) in
+          λ k. fault (both k) 13 (ends k)
 
   fault-same : faultOf s ≡ faultOf t
   fault-same =
-      let span-same = both-same (headFault s) (meansFault s) head-same means-same in
-      let before-cuts-same = both-same (spanFault s) (readingsFault s) span-same (λ e. readings-same (none-both (headFault s) (meansFault s) e .0)) in
-      sym (in-order s) ∙
-      both-same (beforeCutsFault s) (cutsFault s) before-cuts-same
-      (λ e.
+      let span-same = both-same (headFault s) _ head-same means-same in
+      let before-cuts-same = both-same (spanFault s) (readingsFault s) span-same (λ e. readings-same (none-both (headFault s) _ e .0)) in
+      let sections-same = both-same (beforeCutsFault s) (cutsFault s) before-cuts-same (λ e.
       let f = none-both (spanFault s) (readingsFault s) e in
-      cuts-same (none-both (headFault s) (meansFault s) (f .0) .0) (f .1)) ∙
-      in-order t
+      cuts-same (none-both (headFault s) _ (f .0) .0) (f .1)) in
+      both-same (sectionsFault s) (leftOver s (endOf s)) sections-same (λ e.
+      let f = none-both (beforeCutsFault s) (cutsFault s) e in
+      let g = none-both (spanFault s) (readingsFault s) (f .0) in
+      left-same (none-both (headFault s) _ (g .0) .0) (g .1) (f .1))
 
 pub enough : EnoughBytes
 enough s = go (decLt bytesRead (length s))

@@ -9,26 +9,22 @@ use Rattle.common.specs.Rows.{row}
 use Rattle.casefile.specs.declared.sections.SectionEnd.{SectionEnd}
 use Rattle.casefile.specs.Faults.{Fault, noFault, refused, _before_, fault, firstFault}
 use Rattle.casefile.specs.Reader.{faultNumber}
-use Rattle.casefile.specs.Sections.{told, Reached}
-
-pub before-assoc : (f g h : Fault) → ((f before g) before h) ≡ (f before (g before h))
-before-assoc noFault g h = refl
-before-assoc (refused n k) g h = refl
+use Rattle.casefile.specs.Sections.{told, toldBy, Reached}
 
 -- a fault that was met
-pub met : {number place : ℕ} {p : SectionEnd} → 0 < number → p ≡ record { number = number; place = place; days = 0; next = 0 } → p .number ≡ 0 → ⊥
+pub met : {number place : ℕ} {p : SectionEnd} → 0 < number → p ≡ record { number = number; place = place; days = 0 } → p .number ≡ 0 → ⊥
 met l e z = omega (arith, ap (λ (q : SectionEnd). q .number) e)
 
-pub stops : {f : Fault} {n next number place : ℕ} {p : SectionEnd} → 0 < number → p ≡ record { number = number; place = place; days = 0; next = 0 } → told number place ≡ f → Reached f n next p
-stops l e t = record { tells = rw e t; days-are = λ z. absurd (met l e z); next-is = λ z. absurd (met l e z) }
+pub stops : {f : Fault} {n next number place : ℕ} {p : SectionEnd} → 0 < number → p ≡ record { number = number; place = place; days = 0 } → told number place ≡ f → Reached f n next p
+stops l e t = record { tells = rw e t; days-are = λ z. absurd (met l e z); stands = λ z. absurd (met l e z) }
 
 -- no fault
-pub goes : {f : Fault} {n next days at : ℕ} {p : SectionEnd} → p ≡ record { number = 0; place = 0; days = days; next = at } → noFault ≡ f → days ≡ n → at ≡ next → Reached f n next p
+pub goes : {f : Fault} {n next days at : ℕ} {p : SectionEnd} → p ≡ record { number = 0; place = at; days = days } → noFault ≡ f → days ≡ n → at ≡ next → Reached f n next p
 goes e t d a =
     record {
       tells = rw e t;
       days-are = λ z. ap (λ (q : SectionEnd). q .days) e ∙ d;
-      next-is = λ z. ap (λ (q : SectionEnd). q .next) e ∙ a;
+      stands = λ z. ap (λ (q : SectionEnd). q .place) e ∙ a;
     }
 
 -- the items before i have no fault, and item i ..
@@ -36,7 +32,7 @@ pub first-more : (f : ℕ → Fault) (i : ℕ) → firstFault f i ≡ noFault �
 unfolding firstFault
 first-more f i n e = rw (add-one, n, e) refl
 
-pub first-is : (f : ℕ → Fault) (m i : ℕ) {number place : ℕ} → i < m → firstFault f i ≡ noFault → f i ≡ refused number place → firstFault f m ≡ refused number place
+first-is : (f : ℕ → Fault) (m i : ℕ) {number place : ℕ} → i < m → firstFault f i ≡ noFault → f i ≡ refused number place → firstFault f m ≡ refused number place
 unfolding firstFault
 first-is f zero i l n e = absurd (omega arith)
 first-is f (suc m) i {number} {place} l n e = go (first-is f m i) (decLt i m)
@@ -79,9 +75,17 @@ pub numbered : (b : Bool) (number place : ℕ) → 0 < number → Numbered (faul
 numbered true number place l e = absurd (omega arith)
 numbered false number place l e = refl
 
-pub numbered-before : (b : Bool) (number place : ℕ) (g : Fault) → 0 < number → Numbered g → Numbered (fault b number place before g)
-numbered-before true number place g l rest e = absurd (omega arith)
-numbered-before false number place g l rest e = rest e
+pub numbered-before : (f g : Fault) → Numbered f → Numbered g → Numbered (f before g)
+numbered-before noFault g a b = b
+numbered-before (refused n k) g a b = a
+
+pub then : (b : Bool) (number place : ℕ) (g : Fault) → 0 < number → Numbered g → Numbered (fault b number place before g)
+then b number place g l rest = numbered-before (fault b number place) g (numbered b number place l) rest
+
+pub numbered-first : (f : ℕ → Fault) → ((i : ℕ) → Numbered (f i)) → (m : ℕ) → Numbered (firstFault f m)
+unfolding firstFault
+numbered-first f all zero = λ e. refl
+numbered-first f all (suc m) = numbered-before (firstFault f m) (f m) (numbered-first f all m) (all m)
 
 -- a condition that does not hold, and what comes after it
 pub passes : (b : Bool) (number place : ℕ) (g : Fault) → (fault b number place before g) ≡ noFault → (b ≡ false) × (g ≡ noFault)
@@ -119,18 +123,21 @@ told-first : (number place : ℕ) (g : Fault) → (number ≡ 0 → ⊥) → tol
 told-first zero place g n = absurd (n refl)
 told-first (suc number) place g n = refl
 
-pub stays : {f : Fault} {m n at next : ℕ} {p : SectionEnd} (g : Fault) → Reached f m at p → (p .number ≡ 0 → ⊥) → Reached (f before g) n next p
-stays {p = p} g r h =
-    record {
-      tells = told-first (p .number) (p .place) g h ∙ ap (λ (x : Fault). x before g) (r .tells);
-      days-are = λ z. absurd (h z);
-      next-is = λ z. absurd (h z);
-    }
+pub stays : {n next : ℕ} (p : SectionEnd) (g : Fault) → (p .number ≡ 0 → ⊥) → Reached (toldBy p before g) n next p
+stays p g h = record { tells = told-first (p .number) (p .place) g h; days-are = λ z. absurd (h z); stands = λ z. absurd (h z) }
 
-pub joins : {f g : Fault} {m n at next : ℕ} {p q : SectionEnd} → Reached f m at p → p .number ≡ 0 → Reached g n next q → Reached (f before g) n next q
-joins {f} {g} r z t = record { tells = t .tells ∙ ap (λ (x : Fault). x before g) (sym (clean r z)); days-are = t .days-are; next-is = t .next-is }
+pub joins : (g : Fault) {n next : ℕ} (p : SectionEnd) {q : SectionEnd} → p .number ≡ 0 → Reached g n next q → Reached (toldBy p before g) n next q
+joins g p z t = record { tells = t .tells ∙ ap (λ (n : ℕ). told n (p .place) before g) (sym z); days-are = t .days-are; stands = t .stands }
 
--- the fault that an item's number and place tell is the first of its section
-pub first-told : (f : ℕ → Fault) (m i number place : ℕ) → i < m → firstFault f i ≡ noFault → (number ≡ 0 → ⊥) → told number place ≡ f i → told number place ≡ firstFault f m
-first-told f m i zero place l n h e = absurd (h refl)
+-- .. and the fault that the first tells is its own
+pub after : {f : Fault} {m n at next : ℕ} {p q : SectionEnd} (g : Fault) → Reached f m at p → Reached (toldBy p before g) n next q → Reached (f before g) n next q
+after g r t = record { tells = t .tells ∙ ap (λ (x : Fault). x before g) (r .tells); days-are = t .days-are; stands = t .stands }
+
+-- a fault at item i is the first of its section
+first-told : (f : ℕ → Fault) (m i number place : ℕ) → i < m → firstFault f i ≡ noFault → 0 < number → told number place ≡ f i → told number place ≡ firstFault f m
+first-told f m i zero place l n h e = absurd (omega arith)
 first-told f m i (suc number) place l n h e = sym (first-is f m i l n (sym e))
+
+pub first-stops : (f : ℕ → Fault) (m i : ℕ) {n next number place : ℕ} {p : SectionEnd} → i < m → firstFault f i ≡ noFault → 0 < number
+    → p ≡ record { number = number; place = place; days = 0 } → told number place ≡ f i → Reached (firstFault f m) n next p
+first-stops f m i {number = number} {place = place} h n l e t = stops l e (first-told f m i number place h n l t)

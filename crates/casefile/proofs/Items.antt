@@ -3,22 +3,25 @@
 use Prim.Native.Nat.{ℕ, zero, suc, _+_, _≤_, _<_}
 use mathlib.Core.Path.{_≡_, refl, sym, _∙_, ap}
 use native.Mathlib.Omega.{arith}
-use mathlib.Core.List.{List}
-use mathlib.Core.Bool.{false, _||_, or-true}
+use mathlib.Core.List.{List, []}
+use mathlib.Core.Bool.{true, false, _||_, or-true}
 use native.Mathlib.Decide.{decLt}
 use borrow.Author.Tests.{lt-ltb, le-ltb, lt-leb, le-leb, ltb-false}
 use lib.Dec.{ltb, leb}
-use lib.ListN.{length, set}
+use lib.ListN.{length, getD, set}
 use native.Mathlib.Numerals.{add-one}
 use native.Mathlib.Nat.{le-refl}
 use Rattle.common.specs.Below.{somewhere}
-use Rattle.casefile.specs.Case.{daysOf, readingOffset, readingBoundary, readingCount, emptyCase, withReadings}
-use Rattle.casefile.specs.Faults.{Fault, noFault, firstFault, failsToRise, readingFault}
+use Rattle.account.specs.Account.{Account, account, marksCut, markOf}
+use Rattle.account.specs.Calls.{readingPut}
+use Rattle.account.proofs.Shows.{zeros}
+use Rattle.casefile.specs.Case.{itemAt, boundaryAt, readingCountAt, readingsPut}
+use Rattle.casefile.specs.Faults.{Fault, noFault, firstFault, failsToRise, boundaryFault, readingFaultAt}
 use Rattle.casefile.specs.Reader.{full}
 use Rattle.casefile.specs.declared.readings.Reading.{Reading}
-use Rattle.casefile.specs.Sections.{told, ReadingTold, itemFault}
-use Rattle.casefile.proofs.Faults.{first-more, passes}
-use Rattle.casefile.proofs.Kept.{filled-set, readings-kept, uncut}
+use Rattle.casefile.specs.Sections.{told, Clear, ReadingTold, itemFault}
+use Rattle.casefile.proofs.Faults.{none-both, first-more, passes, no-fault}
+use Rattle.casefile.proofs.Kept.{readings-kept, uncut, full-reading}
 
 pub stored : {number place : ℕ} {r : Reading} → 0 < number → r ≡ record { number = number; place = place; boundary = 0; count = 0 } → r .number ≡ 0 → ⊥
 stored l e z = omega (arith, ap (λ (q : Reading). q .number) e)
@@ -61,85 +64,95 @@ falling count v (suc i) top e = go (decLt v (count i))
     go (yes l) = rw (lt-ltb v (count i) l) (or-true (somewhere (λ j. ltb v (count j)) i))
     go (no n) = rw (le-ltb v (count i) (omega arith), some-above count v (count i) i (λ j h. top j (omega arith)) (omega arith)) refl
 
--- the first i readings have no fault, and stand in marks and counts
-pub record ReadingsRead (s marks counts : List ℕ) (low last i : ℕ) : Type 0 where
-  pub clean : firstFault (readingFault s) i ≡ noFault
-  pub low-is : low ≡ above (readingBoundary s) i
-  pub last-is : readingOffset s 0 + 10 ≤ length s → last ≡ before (readingCount s) i
-  pub top : (j : ℕ) → j < i → readingCount s j ≤ last
-  pub marks-are : marks ≡ full (withReadings s i) .marks
-  pub counts-are : counts ≡ full (withReadings s i) .counts
+-- a boundary without a fault is all there, rises and lies in the span
+pub record Sane (width : ℕ) (s : List ℕ) (at n i : ℕ) : Type 0 where
+  pub long : itemAt width at i + width ≤ length s
+  pub rising : failsToRise (boundaryAt width s at) i ≡ false
+  pub inside : boundaryAt width s at i ≤ n
 
--- the facts of a reading without a fault
-pub record Sane (s : List ℕ) (i : ℕ) : Type 0 where
-  pub long : readingOffset s i + 10 ≤ length s
-  pub rising : failsToRise (readingBoundary s) i ≡ false
-  pub inside : readingBoundary s i ≤ daysOf s
-  pub ordered : somewhere (λ j. ltb (readingCount s i) (readingCount s j)) i ≡ false
+pub sane : (width : ℕ) (s : List ℕ) (at n i : ℕ) → boundaryFault width s at n i ≡ noFault → Sane width s at n i
+sane width s at n i e =
+    let f1 = passes (ltb (length s) (itemAt width at i + width)) 13 (length s) _ e in
+    let f2 = passes (failsToRise (boundaryAt width s at) i) 13 (itemAt width at i) _ (f1 .1) in
+    record { long = ltb-false _ _ (f1 .0); rising = f2 .0; inside = ltb-false _ _ (no-fault (ltb n (boundaryAt width s at i)) 6 (itemAt width at i) (f2 .1)) }
 
-pub sane : (s : List ℕ) (i : ℕ) → readingFault s i ≡ noFault → Sane s i
-sane s i e =
-    let f1 = passes (ltb (length s) (readingOffset s i + 10)) 13 (length s) _ e in
-    let f2 = passes (failsToRise (readingBoundary s) i) 13 (readingOffset s i) _ (f1 .1) in
-    let f3 = passes (ltb (daysOf s) (readingBoundary s i)) 6 (readingOffset s i) _ (f2 .1) in
-    let f4 = passes (somewhere (λ j. ltb (readingCount s i) (readingCount s j)) i) 8 (readingOffset s i + 2) _ (f3 .1) in
-    record {
-      long = ltb-false _ _ (f1 .0);
-      rising = f2 .0;
-      inside = ltb-false _ _ (f3 .0);
-      ordered = f4 .0;
-    }
+-- so is that of a reading without a fault, and its count falls below none
+pub record SaneReading (s : List ℕ) (at n i : ℕ) : Type 0 where
+  pub boundary : Sane 10 s at n i
+  pub ordered : somewhere (λ j. ltb (readingCountAt s at i) (readingCountAt s at j)) i ≡ false
 
-module _ {s marks counts : List ℕ} {low last i : ℕ} (r : ReadingsRead s marks counts low last i) where
-  above-all : readingOffset s i + 10 ≤ length s → somewhere (λ j. ltb (readingCount s i) (readingCount s j)) i ≡ ltb (readingCount s i) last
+pub sane-reading : (s : List ℕ) (at n i : ℕ) → readingFaultAt s at n i ≡ noFault → SaneReading s at n i
+sane-reading s at n i e =
+    let f = none-both (boundaryFault 10 s at n i) _ e in
+    record { boundary = sane 10 s at n i (f .0); ordered = passes (somewhere (λ j. ltb (readingCountAt s at i) (readingCountAt s at j)) i) 8 (itemAt 10 at i + 2) _ (f .1) .0 }
+
+-- the first i readings have no fault, and are put into marks and counts
+pub record ReadingsRead (s : List ℕ) (at n : ℕ) (marks₀ counts₀ marks counts : List ℕ) (low last i : ℕ) : Type 0 where
+  pub clean : firstFault (readingFaultAt s at n) i ≡ noFault
+  pub low-is : low ≡ above (boundaryAt 10 s at) i
+  pub last-is : itemAt 10 at 0 + 10 ≤ length s → last ≡ before (readingCountAt s at) i
+  pub top : (j : ℕ) → j < i → readingCountAt s at j ≤ last
+  pub puts : (w : List ℕ) → account w marks counts ≡ readingsPut (account w marks₀ counts₀) s at i
+
+module _ {s : List ℕ} {at n : ℕ} {marks₀ counts₀ marks counts : List ℕ} {low last i : ℕ} (r : ReadingsRead s at n marks₀ counts₀ marks counts low last i) where
+  above-all : itemAt 10 at i + 10 ≤ length s → somewhere (λ j. ltb (readingCountAt s at i) (readingCountAt s at j)) i ≡ ltb (readingCountAt s at i) last
   above-all l =
       let e = r .last-is (omega arith) in
-      rw e (falling (readingCount s) (readingCount s i) i (λ j h. rw e at (r .top j h)) (λ z. ap (readingCount s) z))
+      rw e (falling (readingCountAt s at) (readingCountAt s at i) i (λ j h. rw e at (r .top j h)) (λ z. ap (readingCountAt s at) z))
 
   -- what the reader tests is the definition's fault
-  pub item-is : (first : ℕ) → (readingOffset s 0 + 10 ≤ length s → first ≡ readingCount s 0) → itemFault s (readingOffset s i) low (daysOf s) first last ≡ readingFault s i
-  item-is first f = go (decLt (length s) (readingOffset s i + 10))
+  pub item-is : (first : ℕ) → (itemAt 10 at 0 + 10 ≤ length s → first ≡ readingCountAt s at 0) → itemFault s (itemAt 10 at i) low n first last ≡ readingFaultAt s at n i
+  item-is first f = go (decLt (length s) (itemAt 10 at i + 10))
     where
-      go : Dec (length s < readingOffset s i + 10) → itemFault s (readingOffset s i) low (daysOf s) first last ≡ readingFault s i
-      go (yes l) = simp (lt-ltb (length s) (readingOffset s i + 10) l)
-      go (no n) =
+      go : Dec (length s < itemAt 10 at i + 10) → itemFault s (itemAt 10 at i) low n first last ≡ readingFaultAt s at n i
+      go (yes l) = simp (lt-ltb (length s) (itemAt 10 at i + 10) l)
+      go (no g) =
           let e = f (omega arith) in
-          simp (e, r .low-is, rises (readingBoundary s) i, ← above-all (omega arith))
+          simp (e, r .low-is, rises (boundaryAt 10 s at) i, ← above-all (omega arith))
 
   -- .. so that the count before is at most this one
-  pub not-below : readingFault s i ≡ noFault → last ≤ readingCount s i
+  pub not-below : readingFaultAt s at n i ≡ noFault → last ≤ readingCountAt s at i
   not-below e =
-      let g = sane s i e in
-      ltb-false (readingCount s i) last (sym (above-all (g .long)) ∙ g .ordered)
+      let g = sane-reading s at n i e in
+      ltb-false (readingCountAt s at i) last (sym (above-all (g .boundary .long)) ∙ g .ordered)
 
-pub readings-none : {s marks counts : List ℕ} {first : ℕ} → marks ≡ full (emptyCase s) .marks → counts ≡ full (emptyCase s) .counts
-    → (readingOffset s 0 + 10 ≤ length s → first ≡ readingCount s 0) → ReadingsRead s marks counts 0 first 0
-unfolding firstFault withReadings
-readings-none m c f = record { clean = refl; low-is = refl; last-is = f; top = λ j h. absurd (omega arith); marks-are = m; counts-are = c }
+  -- one reading more, into marks that had no cut
+  pub readings-more : ((j : ℕ) → marksCut (getD marks₀ j 0) ≡ false) → readingFaultAt s at n i ≡ noFault
+      → ReadingsRead s at n marks₀ counts₀ (set marks (boundaryAt 10 s at i) 2) (set counts (boundaryAt 10 s at i) (readingCountAt s at i)) (boundaryAt 10 s at i + 1) (readingCountAt s at i) (i + 1)
+  unfolding readingsPut
+  readings-more none e =
+      let b = boundaryAt 10 s at i in
+      let free : marksCut (getD marks b 0) ≡ false = rw (ap (λ (a : Account). a .marks) (r .puts [])) (uncut (account [] marks₀ counts₀) none s at i b) in
+      record {
+        clean = first-more (readingFaultAt s at n) i (r .clean) e;
+        low-is = rw (add-one i) refl;
+        last-is = λ h. rw (add-one i) refl;
+        top = λ j h. go j (not-below e) (decLt j i) h;
+        puts = λ w. rw (add-one i) ((λ k. account w (set marks b (markOf true (sym free k))) (set counts b (readingCountAt s at i))) ∙ ap (λ (a : Account). readingPut a b (readingCountAt s at i)) (r .puts w));
+      }
+    where
+      go : (j : ℕ) → last ≤ readingCountAt s at i → Dec (j < i) → j < i + 1 → readingCountAt s at j ≤ readingCountAt s at i
+      go j l (yes h) _ = omega (arith, r .top j h)
+      go j l (no g) h =
+          let same : j ≡ i = omega arith in
+          rw same (le-refl _)
 
-pub readings-more : {s marks counts : List ℕ} {low last i : ℕ} → ReadingsRead s marks counts low last i → readingFault s i ≡ noFault
-    → ReadingsRead s (set marks (readingBoundary s i) 2) (set counts (readingBoundary s i) (readingCount s i)) (readingBoundary s i + 1) (readingCount s i) (i + 1)
-unfolding withReadings
-readings-more {s} {marks} {counts} {low} {last} {i} r e =
-    let k = readings-kept s i in
-    let b = readingBoundary s i in
-    let g = sane s i e in
-    let l = not-below r e in
-    record {
-      clean = first-more (readingFault s) i (r .clean) e;
-      low-is = rw (add-one i) refl;
-      last-is = λ h. rw (add-one i) refl;
-      top = λ j h. go j l (decLt j i) h;
-      marks-are =
-          rw (add-one i, r .marks-are, uncut s i b)
-          (filled-set 1097 b 2 (withReadings s i .marks) (omega (arith, k .marks-long, g .inside)));
-      counts-are =
-          rw (add-one i, r .counts-are)
-          (filled-set 1097 b (readingCount s i) (withReadings s i .counts) (omega (arith, k .counts-long, g .inside)));
-    }
-  where
-    go : (j : ℕ) → last ≤ readingCount s i → Dec (j < i) → j < i + 1 → readingCount s j ≤ readingCount s i
-    go j l (yes h) _ = omega (arith, r .top j h)
-    go j l (no n) h =
-        let same : j ≡ i = omega arith in
-        rw same (le-refl _)
+-- a slice that is all zero has no cut
+pub clear-uncut : {m : ℕ} {marks : List ℕ} → Clear m marks → (j : ℕ) → marksCut (getD marks j 0) ≡ false
+clear-uncut {marks = marks} c j = rw (c .all-zero, zeros (length marks) j) refl
+
+pub readings-none : (s : List ℕ) (at n first : ℕ) (marks counts : List ℕ) → (itemAt 10 at 0 + 10 ≤ length s → first ≡ readingCountAt s at 0) → ReadingsRead s at n marks counts marks counts 0 first 0
+unfolding firstFault readingsPut
+readings-none s at n first marks counts f = record { clean = refl; low-is = refl; last-is = f; top = λ j h. absurd (omega arith); puts = λ w. refl }
+
+-- in slices of full length
+pub full-readings : (a : Account) (s : List ℕ) (at n i : ℕ) → length (a .marks) ≡ n + 1 → length (a .counts) ≡ n + 1 → firstFault (readingFaultAt s at n) i ≡ noFault
+    → full (readingsPut a s at i) ≡ readingsPut (full a) s at i
+unfolding firstFault readingsPut
+full-readings a s at n zero m c e = refl
+full-readings a s at n (suc i) m c e =
+    let f = none-both (firstFault (readingFaultAt s at n) i) _ e in
+    let k = readings-kept a s at i in
+    let g = sane-reading s at n i (f .1) .boundary .inside in
+    full-reading (readingsPut a s at i) (boundaryAt 10 s at i) (readingCountAt s at i) (omega (arith, k .marks-long)) (omega (arith, k .counts-long)) ∙
+    ap (λ (b : Account). readingPut b (boundaryAt 10 s at i) (readingCountAt s at i)) (full-readings a s at n i m c (f .0))

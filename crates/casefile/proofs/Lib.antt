@@ -1,12 +1,12 @@
 -- The laws that the proofs of crate casefile share, and its theorems (Case file).
 pub mod Numbers
 pub mod Faults
-pub mod Means
-pub mod Weighing
-pub mod Items
 pub mod Kept
-pub mod Chained
+pub mod Means
+pub mod Items
 pub mod Marked
+pub mod Weighing
+pub mod Chained
 pub mod Answered
 pub mod Ordered
 pub mod Sound

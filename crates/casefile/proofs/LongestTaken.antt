@@ -13,7 +13,7 @@ use Rattle.common.specs.Lists.{listOf}
 use Rattle.common.proofs.Lists.{listOf-length, listOf-at}
 use Rattle.casefile.specs.Bytes.{little, number16, signed}
 use Rattle.casefile.specs.Case.{meansLength, meanOffset, daysOf, readingsOffset, readingsLength, readingOffset, readingBoundary, readingCount, cutsOffset, cutsLength, cutOffset, cutBoundary, endOf}
-use Rattle.casefile.specs.Faults.{noFault, failsToRise, meanFault, readingFault, cutFault, headFault, meansFault, readingsFault, cutsFault}
+use Rattle.casefile.specs.Faults.{noFault, failsToRise, meanFault, readingFault, cutFault, itemsFault, headFault, readingsFault, cutsFault, leftOver}
 use Rattle.casefile.specs.Length.{fileMost, Taken}
 use Rattle.casefile.proofs.Faults.{none-of}
 use Rattle.casefile.proofs.Items.{some-above}
@@ -205,7 +205,7 @@ head-clean =
       means-counted,
     ) refl
 
-means-clean : meansFault file ≡ noFault
+means-clean : itemsFault file 2 (meanFault file) ≡ noFault
 means-clean = none-of (meanFault file) (meansLength file) (λ i l. mean-clean i (omega (arith, means-counted)))
 
 readings-clean : readingsFault file ≡ noFault
@@ -218,8 +218,10 @@ cuts-clean =
     rw (
       reaches (cutsOffset file + 2) (omega (arith, means-counted, readings-counted)),
       none-of (cutFault file) (cutsLength file) (λ k l. cut-clean k (omega (arith, cuts-counted))),
-      le-ltb (endOf file) (length file) (omega (arith, means-counted, readings-counted, cuts-counted, long)),
     ) refl
 
+none-left : leftOver file (endOf file) ≡ noFault
+none-left = rw (le-ltb (endOf file) (length file) (omega (arith, means-counted, readings-counted, cuts-counted, long))) refl
+
 pub taken : Taken fileMost
-taken = record { file = file; bytes = λ i l. rw (has i (omega (arith, long))) (below i (omega (arith, long))); long = long; whole = rw (head-clean, means-clean, readings-clean) cuts-clean }
+taken = record { file = file; bytes = λ i l. rw (has i (omega (arith, long))) (below i (omega (arith, long))); long = long; whole = rw (head-clean, means-clean, readings-clean, cuts-clean) none-left }

@@ -7,25 +7,24 @@ use lib.IntN.{ℤ}
 use lib.ListN.{length, set, take}
 use lib.Seq.{take-suc-set}
 use Rattle.common.specs.Lists.{listOf}
-use Rattle.casefile.specs.Bytes.{signed16}
-use Rattle.casefile.specs.Case.{meanOffset, firstMeans}
-use Rattle.casefile.specs.Faults.{noFault, firstFault, meanFault}
+use Rattle.casefile.specs.Case.{meanAt, meansAt}
+use Rattle.casefile.specs.Faults.{noFault, firstFault, meanFaultAt}
 use Rattle.casefile.proofs.Faults.{first-more}
 
 -- the first i means have no fault and stand in the buffer
-pub record MeansRead (s : List ℕ) (means : List ℤ) (i : ℕ) : Type 0 where
-  pub clean : firstFault (meanFault s) i ≡ noFault
-  pub read : take i means ≡ firstMeans s i
+pub record MeansRead (s : List ℕ) (at : ℕ) (means : List ℤ) (i : ℕ) : Type 0 where
+  pub clean : firstFault (meanFaultAt s at) i ≡ noFault
+  pub read : take i means ≡ meansAt s at i
 
-pub means-none : (s : List ℕ) (means : List ℤ) → MeansRead s means 0
+pub means-none : (s : List ℕ) (at : ℕ) (means : List ℤ) → MeansRead s at means 0
 unfolding firstFault listOf
-means-none s means = record { clean = refl; read = refl }
+means-none s at means = record { clean = refl; read = refl }
 
-pub means-more : {s : List ℕ} {means : List ℤ} {i : ℕ} → MeansRead s means i → i < length means → meanFault s i ≡ noFault
-    → MeansRead s (set means i (signed16 s (meanOffset i))) (i + 1)
+pub means-more : {s : List ℕ} {at : ℕ} {means : List ℤ} {i : ℕ} → MeansRead s at means i → i < length means → meanFaultAt s at i ≡ noFault
+    → MeansRead s at (set means i (meanAt s at i)) (i + 1)
 unfolding listOf
-means-more {s} {means} {i} r l e =
+means-more {s} {at} {means} {i} r l e =
     record {
-      clean = first-more (meanFault s) i (r .clean) e;
-      read = rw add-one (take-suc-set means i (signed16 s (meanOffset i)) l ∙ ap (λ (xs : List ℤ). xs ++ (signed16 s (meanOffset i) ∷ [])) (r .read));
+      clean = first-more (meanFaultAt s at) i (r .clean) e;
+      read = rw add-one (take-suc-set means i (meanAt s at i) l ∙ ap (λ (xs : List ℤ). xs ++ (meanAt s at i ∷ [])) (r .read));
     }

@@ -25,181 +25,188 @@ use Rattle.account.proofs.Sound.{sound-parts}
 use Rattle.account.specs.Slices.{Checked}
 use Rattle.account.proofs.Rows.{rows-through}
 use Rattle.account.proofs.Keeps.{Holds, open-keeps, reading-keeps, cut-keeps}
-use Rattle.casefile.specs.Case.{profileByte, weekdayByte, meansLength, meansOf, daysOf, readingsOffset, readingsLength, readingOffset, readingBoundary, readingCount, cutsOffset, cutsLength, cutOffset, cutBoundary, endOf, emptyCase, withReadings, withCuts, accountOf}
-use Rattle.casefile.specs.Faults.{noFault, fault, firstFault, failsToRise, readingFault, cutFault, faultOf, headFault, meansFault, readingsFault, cutsFault, spanFault, beforeCutsFault}
-use Rattle.casefile.proofs.Items.{above, before, Sane, sane}
-use Rattle.casefile.proofs.Ordered.{risen, Orderly, more, reading-rows}
+use Rattle.account.proofs.Shows.{zeros}
+use Rattle.casefile.specs.Case.{itemAt, boundaryAt, readingCountAt, readingsPut, cutsPut, profileByte, weekdayByte, meansLength, meansOf, daysOf, readingsOffset, readingsLength, readingOffset, readingBoundary, readingCount, cutsOffset, cutsLength, cutOffset, cutBoundary, emptyCase, withReadings, withCuts, accountOf}
+use Rattle.casefile.specs.Faults.{noFault, firstFault, failsToRise, cutFaultAt, readingFaultAt, readingFault, cutFault, spanFault}
 use Rattle.casefile.specs.Reader.{faultNumber, CaseSound, CaseTaken}
-use Rattle.casefile.proofs.Faults.{number-of, number-before, none-both, no-fault, passes, none-before, first-few}
-use Rattle.casefile.proofs.Kept.{Kept, readings-kept, cuts-kept, uncut}
-use Rattle.casefile.proofs.Chained.{span-none, in-order}
-use Rattle.casefile.proofs.Weighing.{GoodSpan, head-none, means-in, means-length}
+use Rattle.casefile.proofs.Faults.{number-of, number-before, none-both, none-before, first-few}
+use Rattle.casefile.proofs.Kept.{Kept, kept-on, readings-kept, cuts-kept, uncut}
+use Rattle.casefile.proofs.Items.{above, before, sane, SaneReading, sane-reading}
+use Rattle.casefile.proofs.Ordered.{risen, Orderly, more, reading-rows}
+use Rattle.casefile.proofs.Weighing.{means-in, means-length}
+use Rattle.casefile.proofs.Chained.{span-of, clean-of}
 
 -- counts do not fall
-holds-up : (s : List ℕ) (i : ℕ) → Sane s i → before (readingCount s) i ≤ readingCount s i
-holds-up s zero g = le-refl (readingCount s 0)
-holds-up s (suc i) g =
-    ltb-false (readingCount s (suc i)) (readingCount s i) (none-at (λ j. ltb (readingCount s (suc i)) (readingCount s j)) (suc i) (g .ordered) i (omega arith))
+holds-up : (s : List ℕ) (at n i : ℕ) → SaneReading s at n i → before (readingCountAt s at) i ≤ readingCountAt s at i
+holds-up s at n zero g = le-refl (readingCountAt s at 0)
+holds-up s at n (suc i) g =
+    ltb-false (readingCountAt s at (suc i)) (readingCountAt s at i) (none-at (λ j. ltb (readingCountAt s at (suc i)) (readingCountAt s at j)) (suc i) (g .ordered) i (omega arith))
 
--- the weights of a span that is read without a fault are sound
+-- with the first i readings of a section put into an account of n days in which nothing stood
+pub record Read (a : Account) (s : List ℕ) (at i : ℕ) : Type 0 where
+  checked : Checked (readingsPut a s at i)
+  orderly : Orderly (boundaryAt 10 s at) (readingCountAt s at) i (shown (readingsPut a s at i) .readings)
+
+module _ {a : Account} {s : List ℕ} {at n : ℕ} (long : days a ≡ n) where
+  -- .. the number of reading i, where it is all there and rises, is that of the rows that the table asks
+  reading-number : (i : ℕ) → Read a s at i → itemAt 10 at i + 10 ≤ length s → failsToRise (boundaryAt 10 s at) i ≡ false
+      → faultNumber (readingFaultAt s at n i) ≡ readingRows (days (readingsPut a s at i)) (shown (readingsPut a s at i)) (boundaryAt 10 s at i) (readingCountAt s at i)
+  reading-number i r whole rising =
+      let b = readingsPut a s at i in
+      rw (le-ltb (length s) (itemAt 10 at i + 10) whole, rising, ap length (readings-kept a s at i .weights-are) ∙ long)
+      (number-before (ltb n (boundaryAt 10 s at i)) 6 _ _ ∙
+      ap (row (ltb n (boundaryAt 10 s at i)) 6)
+      (number-before (somewhere (λ j. ltb (readingCountAt s at i) (readingCountAt s at j)) i) 8 _ _ ∙
+      ap (row (somewhere (λ j. ltb (readingCountAt s at i) (readingCountAt s at j)) i) 8) (number-of (ltb energyMost (readingCountAt s at i - readingCountAt s at 0)) 9 _)) ∙
+      sym (reading-rows (shown b) (r .orderly) rising n))
+
+  pub readings-sound : Holds (a .weights) nothing a → (i : ℕ) → firstFault (readingFaultAt s at n) i ≡ noFault → Read a s at i
+  unfolding readingsPut firstFault
+  readings-sound h zero f =
+      let none : (j : ℕ) → shown a .readings .at j ≡ false = λ j. ap (λ (st : Stands). st .readings .at j) (h .shows) in
+      record {
+        checked = h .checked;
+        orderly =
+            record {
+              below = λ j t. absurd (clash t (none j));
+              from = λ j t. absurd (clash t (none j));
+              most = λ j t. absurd (clash t (none j));
+              each = λ m l. absurd (omega arith);
+            };
+      }
+  readings-sound h (suc i) f =
+      let m = none-both (firstFault (readingFaultAt s at n) i) (readingFaultAt s at n i) f in
+      let r = readings-sound h i (m .0) in
+      let g = sane-reading s at n i (m .1) in
+      let b = readingsPut a s at i in
+      let k = reading-keeps b (r .checked) (boundaryAt 10 s at i) (readingCountAt s at i) (sym (reading-number i r (g .boundary .long) (g .boundary .rising)) ∙ ap faultNumber (m .1)) in
+      record { checked = k .checked; orderly = subst⁻¹ (λ (st : Stands). Orderly (boundaryAt 10 s at) (readingCountAt s at) (suc i) (st .readings)) (k .shows) (more (shown b) (r .orderly) (g .boundary .rising) (holds-up s at n i g)) }
+
+  -- .. and that of the call
+  pub reading-agrees : (i : ℕ) → Read a s at i → itemAt 10 at i + 10 ≤ length s → failsToRise (boundaryAt 10 s at) i ≡ false
+      → faultNumber (readingFaultAt s at n i) ≡ readingNumber (readingsPut a s at i) (boundaryAt 10 s at i) (readingCountAt s at i)
+  reading-agrees i r whole rising = reading-number i r whole rising ∙ sym (rows-through (readingsPut a s at i) _ (r .checked))
+
+-- with the first i cuts of a section put into an account without a cut
+pub record Cut (a : Account) (s : List ℕ) (at i : ℕ) : Type 0 where
+  checked : Checked (cutsPut a s at i)
+  below : (j : ℕ) → shown (cutsPut a s at i) .cut j ≡ true → j < above (boundaryAt 2 s at) i
+
+module _ {a : Account} {s : List ℕ} {at n : ℕ} (long : days a ≡ n) where
+  -- .. the number of cut i, likewise
+  cut-number : (i : ℕ) → Cut a s at i → itemAt 2 at i + 2 ≤ length s → failsToRise (boundaryAt 2 s at) i ≡ false
+      → faultNumber (cutFaultAt s at n i) ≡ cutRows (days (cutsPut a s at i)) (shown (cutsPut a s at i)) (boundaryAt 2 s at i)
+  cut-number i p whole rising =
+      let c = cutsPut a s at i in
+      let b = boundaryAt 2 s at i in
+      let free = refuted (shown c .cut b) (λ t. omega (arith, p .below b t, risen (boundaryAt 2 s at) i rising)) in
+      rw (le-ltb (length s) (itemAt 2 at i + 2) whole, rising, ap length (cuts-kept a s at i .weights-are) ∙ long, free) (number-of (ltb n b) 6 _)
+
+  pub cuts-sound : Checked a → ((j : ℕ) → shown a .cut j ≡ false) → (i : ℕ) → firstFault (cutFaultAt s at n) i ≡ noFault → Cut a s at i
+  unfolding cutsPut firstFault
+  cuts-sound h none zero f = record { checked = h; below = λ j t. absurd (clash t (none j)) }
+  cuts-sound h none (suc i) f =
+      let m = none-both (firstFault (cutFaultAt s at n) i) (cutFaultAt s at n i) f in
+      let p = cuts-sound h none i (m .0) in
+      let c = sane 2 s at n i (m .1) in
+      let k = cut-keeps (cutsPut a s at i) (p .checked) (boundaryAt 2 s at i) (sym (cut-number i p (c .long) (c .rising)) ∙ ap faultNumber (m .1)) in
+      record { checked = k .checked; below = λ j t. next j (risen (boundaryAt 2 s at) i (c .rising)) (p .below j) (eqb j (boundaryAt 2 s at i)) refl (ap (λ (st : Stands). st .cut j) (sym (k .shows)) ∙ t) }
+    where
+      next : (j : ℕ) → above (boundaryAt 2 s at) i ≤ boundaryAt 2 s at i → (shown (cutsPut a s at i) .cut j ≡ true → j < above (boundaryAt 2 s at) i) → (t : Bool) → eqb j (boundaryAt 2 s at i) ≡ t
+          → cond t true (shown (cutsPut a s at i) .cut j) ≡ true → j < boundaryAt 2 s at i + 1
+      next j up old true e t = omega (arith, eqb-true j (boundaryAt 2 s at i) e)
+      next j up old false e t = omega (arith, old t)
+
+  pub cut-agrees : (i : ℕ) → Cut a s at i → itemAt 2 at i + 2 ≤ length s → failsToRise (boundaryAt 2 s at) i ≡ false
+      → faultNumber (cutFaultAt s at n i) ≡ cutNumber (cutsPut a s at i) (boundaryAt 2 s at i)
+  cut-agrees i p whole rising = cut-number i p whole rising ∙ sym (rows-through (cutsPut a s at i) _ (p .checked))
+
+-- the account of the layout: over good weights, and for n days
 span-weights : (s : List ℕ) → spanFault s ≡ noFault → goodWeights (weightsOf (profileByte s) (weekdayByte s) (meansOf s)) ≡ true
 unfolding goodWeights
 span-weights s e =
-    let f = none-both (headFault s) (meansFault s) e in
-    let h = head-none s (f .0) in
+    let c = span-of s 0 e in
     let ready : Ready (profileByte s) (weekdayByte s) (meansOf s) =
-    record { profile-known = omega (arith, h .profile-known); weekday-known = omega (arith, h .weekday-known); means-in-range = means-in s (meansLength s) (f .1) } in
+    record { profile-known = omega (arith, c .first .profile-known); weekday-known = omega (arith, c .first .weekday-known); means-in-range = means-in s 2 (meansLength s) (c .means) } in
     every-is _ _ λ d l.
     let w = weights-bounded (profileByte s) (weekdayByte s) (meansOf s) ready d (omega (arith, weights-length (profileByte s) (weekdayByte s) (meansOf s))) in
     simp (le-leb weightLeast (getD (weightsOf (profileByte s) (weekdayByte s) (meansOf s)) d 0) (w .0), le-leb (getD (weightsOf (profileByte s) (weekdayByte s) (meansOf s)) d 0) weightMost (w .1))
 
-pub days-kept : (s : List ℕ) (a : Account) → Kept s a → days a ≡ daysOf s
-days-kept s a k = ap length (k .weights-are) ∙ weights-length (profileByte s) (weekdayByte s) (meansOf s) ∙ ap (λ (n : ℕ). n - 3) (means-length s (meansLength s))
+empty-days : (s : List ℕ) → days (emptyCase s) ≡ daysOf s
+empty-days s = weights-length (profileByte s) (weekdayByte s) (meansOf s) ∙ ap (λ (n : ℕ). n - 3) (means-length s 2 (meansLength s))
 
-kept-fits : (s : List ℕ) (a : Account) → Kept s a → GoodSpan (daysOf s) → unfit a ≡ false
-kept-fits s a k g =
-    let d = days-kept s a k in
-    simp (
-      le-leb 1 (days a) (omega (arith, g .least)),
-      le-leb (days a) spanMost (omega (arith, g .most)),
-      eq-eqb (length (a .marks)) (days a + 1) (omega (arith, k .marks-long)),
-      eq-eqb (length (a .counts)) (days a + 1) (omega (arith, k .counts-long)),
-    )
+-- as long as the file's days ask, with all readings and with all cuts
+pub record CaseLong (s : List ℕ) (a : Account) : Type 0 where
+  pub days-are : days a ≡ daysOf s
+  pub marks-long : length (a .marks) ≡ daysOf s + 1
+  pub counts-long : length (a .counts) ≡ daysOf s + 1
+
+kept-long : (s : List ℕ) (a : Account) → Kept (emptyCase s) a → CaseLong s a
+kept-long s a k =
+    record {
+      days-are = ap length (k .weights-are) ∙ empty-days s;
+      marks-long = k .marks-long ∙ length-replicate (daysOf s + 1) 0;
+      counts-long = k .counts-long ∙ length-replicate (daysOf s + 1) 0;
+    }
+
+read-long : (s : List ℕ) → CaseLong s (withReadings s (readingsLength s))
+read-long s = kept-long s _ (readings-kept (emptyCase s) s (readingsOffset s) (readingsLength s))
+
+pub case-long : (s : List ℕ) → CaseLong s (accountOf s)
+case-long s =
+    kept-long s (accountOf s)
+    (kept-on (readings-kept (emptyCase s) s (readingsOffset s) (readingsLength s)) (cuts-kept (withReadings s (readingsLength s)) s (cutsOffset s) (cutsLength s)))
 
 -- before the first reading nothing stands
 empty-holds : (s : List ℕ) → spanFault s ≡ noFault → Holds (emptyCase s .weights) nothing (emptyCase s)
-unfolding withReadings
 empty-holds s e =
     let same : cleared (emptyCase s) ≡ emptyCase s = rw length-replicate refl in
-    let fits = kept-fits s (emptyCase s) (readings-kept s 0) (span-none s e) in
+    let g = span-of s 0 e .span in
+    let d = empty-days s in
+    let long = length-replicate {A = ℕ} (daysOf s + 1) 0 in
+    let fits : unfit (emptyCase s) ≡ false =
+    simp (
+      le-leb 1 (days (emptyCase s)) (omega (arith, g .least)),
+      le-leb (days (emptyCase s)) spanMost (omega (arith, g .most)),
+      eq-eqb (length (emptyCase s .marks)) (days (emptyCase s) + 1) (omega arith),
+    ) in
     subst (Holds (emptyCase s .weights) nothing) same (open-keeps (emptyCase s) (simp (fits, span-weights s e)))
 
--- with the first i readings
-pub record Read (s : List ℕ) (i : ℕ) : Type 0 where
-  checked : Checked (withReadings s i)
-  orderly : Orderly s i (shown (withReadings s i) .readings)
+case-read : (s : List ℕ) → spanFault s ≡ noFault → (i : ℕ) → firstFault (readingFault s) i ≡ noFault → Read (emptyCase s) s (readingsOffset s) i
+case-read s e i f = readings-sound (empty-days s) (empty-holds s e) i f
 
--- .. the number of reading i, where it is all there and rises, is that of the rows that the table asks
-reading-number : (s : List ℕ) (i : ℕ) → Read s i → readingOffset s i + 10 ≤ length s → failsToRise (readingBoundary s) i ≡ false
-    → faultNumber (readingFault s i) ≡ readingRows (days (withReadings s i)) (shown (withReadings s i)) (readingBoundary s i) (readingCount s i)
-reading-number s i r long rising =
-    let a = withReadings s i in
-    rw (le-ltb (length s) (readingOffset s i + 10) long, rising, days-kept s a (readings-kept s i))
-    (number-before (ltb (daysOf s) (readingBoundary s i)) 6 _ _ ∙
-    ap (row (ltb (daysOf s) (readingBoundary s i)) 6)
-    (number-before (somewhere (λ j. ltb (readingCount s i) (readingCount s j)) i) 8 _ _ ∙
-    ap (row (somewhere (λ j. ltb (readingCount s i) (readingCount s j)) i) 8) (number-of (ltb energyMost (readingCount s i - readingCount s 0)) 9 _)) ∙
-    sym (reading-rows (shown a) (r .orderly) rising))
+cuts-read : (s : List ℕ) → spanFault s ≡ noFault → firstFault (readingFault s) (readingsLength s) ≡ noFault → (i : ℕ) → firstFault (cutFault s) i ≡ noFault
+    → Cut (withReadings s (readingsLength s)) s (cutsOffset s) i
+cuts-read s e r i f =
+    cuts-sound (read-long s .days-are) (case-read s e (readingsLength s) r .checked)
+    (uncut (emptyCase s) (λ j. rw (zeros (daysOf s + 1) j) refl) s (readingsOffset s) (readingsLength s)) i f
 
-pub readings-sound : (s : List ℕ) → spanFault s ≡ noFault → (i : ℕ) → firstFault (readingFault s) i ≡ noFault → Read s i
-unfolding withReadings firstFault
-readings-sound s e zero f =
-    let h = empty-holds s e in
-    let at : (j : ℕ) → shown (emptyCase s) .readings .at j ≡ false = λ j. ap (λ (st : Stands). st .readings .at j) (h .shows) in
-    record {
-      checked = h .checked;
-      orderly =
-          record {
-            below = λ j t. absurd (clash t (at j));
-            from = λ j t. absurd (clash t (at j));
-            most = λ j t. absurd (clash t (at j));
-            each = λ m l. absurd (omega arith);
-          };
-    }
-readings-sound s e (suc i) f =
-    let n = none-both (firstFault (readingFault s) i) (readingFault s i) f in
-    let r = readings-sound s e i (n .0) in
-    let g = sane s i (n .1) in
-    let a = withReadings s i in
-    let h = reading-keeps a (r .checked) (readingBoundary s i) (readingCount s i) (sym (reading-number s i r (g .long) (g .rising)) ∙ ap faultNumber (n .1)) in
-    record { checked = h .checked; orderly = subst⁻¹ (λ (st : Stands). Orderly s (suc i) (st .readings)) (h .shows) (more (shown a) (r .orderly) (g .rising) (holds-up s i g)) }
-
--- .. and that of the call
-pub reading-agrees : (s : List ℕ) (i : ℕ) → Read s i → readingOffset s i + 10 ≤ length s → failsToRise (readingBoundary s) i ≡ false
+-- an item that is all there and rises has the number of the call that takes it
+pub case-reading : (s : List ℕ) (i : ℕ) → spanFault s ≡ noFault → firstFault (readingFault s) i ≡ noFault → readingOffset s i + 10 ≤ length s → failsToRise (readingBoundary s) i ≡ false
     → faultNumber (readingFault s i) ≡ readingNumber (withReadings s i) (readingBoundary s i) (readingCount s i)
-reading-agrees s i r long rising = reading-number s i r long rising ∙ sym (rows-through (withReadings s i) _ (r .checked))
+case-reading s i e f = reading-agrees (empty-days s) i (case-read s e i f)
 
--- with the first i cuts
-pub record Cut (s : List ℕ) (i : ℕ) : Type 0 where
-  checked : Checked (withCuts s i)
-  below : (j : ℕ) → shown (withCuts s i) .cut j ≡ true → j < above (cutBoundary s) i
-
--- a cut without a fault is all there, rises and lies in the span
-pub record SaneCut (s : List ℕ) (i : ℕ) : Type 0 where
-  pub long : cutOffset s i + 2 ≤ length s
-  pub rising : failsToRise (cutBoundary s) i ≡ false
-  pub inside : cutBoundary s i ≤ daysOf s
-
-pub sane-cut : (s : List ℕ) (i : ℕ) → cutFault s i ≡ noFault → SaneCut s i
-sane-cut s i e =
-    let f1 = passes (ltb (length s) (cutOffset s i + 2)) 13 (length s) _ e in
-    let f2 = passes (failsToRise (cutBoundary s) i) 13 (cutOffset s i) _ (f1 .1) in
-    record { long = ltb-false _ _ (f1 .0); rising = f2 .0; inside = ltb-false _ _ (no-fault (ltb (daysOf s) (cutBoundary s i)) 6 (cutOffset s i) (f2 .1)) }
-
--- .. the number of cut i, likewise
-cut-number : (s : List ℕ) (i : ℕ) → Cut s i → cutOffset s i + 2 ≤ length s → failsToRise (cutBoundary s) i ≡ false
-    → faultNumber (cutFault s i) ≡ cutRows (days (withCuts s i)) (shown (withCuts s i)) (cutBoundary s i)
-cut-number s i p long rising =
-    let a = withCuts s i in
-    let b = cutBoundary s i in
-    let free = refuted (shown a .cut b) (λ t. omega (arith, p .below b t, risen (cutBoundary s) i rising)) in
-    rw (le-ltb (length s) (cutOffset s i + 2) long, rising, days-kept s a (cuts-kept s i), free) (number-of (ltb (daysOf s) b) 6 _)
-
-pub cuts-sound : (s : List ℕ) → Read s (readingsLength s) → (i : ℕ) → firstFault (cutFault s) i ≡ noFault → Cut s i
-unfolding withCuts firstFault
-cuts-sound s r zero f = record { checked = r .checked; below = λ j t. absurd (clash t (uncut s (readingsLength s) j)) }
-cuts-sound s r (suc i) f =
-    let n = none-both (firstFault (cutFault s) i) (cutFault s i) f in
-    let p = cuts-sound s r i (n .0) in
-    let c = sane-cut s i (n .1) in
-    let h = cut-keeps (withCuts s i) (p .checked) (cutBoundary s i) (sym (cut-number s i p (c .long) (c .rising)) ∙ ap faultNumber (n .1)) in
-    record { checked = h .checked; below = λ j t. next j (risen (cutBoundary s) i (c .rising)) (p .below j) (eqb j (cutBoundary s i)) refl (ap (λ (st : Stands). st .cut j) (sym (h .shows)) ∙ t) }
-  where
-    next : (j : ℕ) → above (cutBoundary s) i ≤ cutBoundary s i → (shown (withCuts s i) .cut j ≡ true → j < above (cutBoundary s) i) → (t : Bool) → eqb j (cutBoundary s i) ≡ t
-        → cond t true (shown (withCuts s i) .cut j) ≡ true → j < cutBoundary s i + 1
-    next j up old true e h = omega (arith, eqb-true j (cutBoundary s i) e)
-    next j up old false e h = omega (arith, old h)
-
-pub cut-agrees : (s : List ℕ) (i : ℕ) → Cut s i → cutOffset s i + 2 ≤ length s → failsToRise (cutBoundary s) i ≡ false
-    → faultNumber (cutFault s i) ≡ cutNumber (withCuts s i) (cutBoundary s i)
-cut-agrees s i p long rising = cut-number s i p long rising ∙ sym (rows-through (withCuts s i) _ (p .checked))
-
--- the parts of a file without a fault have none
-pub record Clean (s : List ℕ) : Type 0 where
-  pub span : spanFault s ≡ noFault
-  pub readings : firstFault (readingFault s) (readingsLength s) ≡ noFault
-  pub cuts : firstFault (cutFault s) (cutsLength s) ≡ noFault
-  pub ended : fault (ltb (endOf s) (length s)) 13 (endOf s) ≡ noFault
-
-pub clean-of : (s : List ℕ) → faultOf s ≡ noFault → Clean s
-clean-of s e =
-    let f = none-both (beforeCutsFault s) (cutsFault s) (in-order s ∙ e) in
-    let g = none-both (spanFault s) (readingsFault s) (f .0) in
-    let r = passes (ltb (length s) (readingsOffset s + 2)) 13 (length s) _ (g .1) in
-    let c = passes (ltb (length s) (cutsOffset s + 2)) 13 (length s) _ (f .1) in
-    let d = none-both (firstFault (cutFault s) (cutsLength s)) _ (c .1) in
-    record { span = g .0; readings = r .1; cuts = d .0; ended = d .1 }
+pub case-cut : (s : List ℕ) (i : ℕ) → spanFault s ≡ noFault → firstFault (readingFault s) (readingsLength s) ≡ noFault → firstFault (cutFault s) i ≡ noFault
+    → cutOffset s i + 2 ≤ length s → failsToRise (cutBoundary s) i ≡ false → faultNumber (cutFault s i) ≡ cutNumber (withCuts s i) (cutBoundary s i)
+case-cut s i e r f = cut-agrees (read-long s .days-are) i (cuts-read s e r i f)
 
 pub case-sound : CaseSound
 case-sound s e =
     let c = clean-of s e in
-    let k = cuts-sound s (readings-sound s (c .span) (readingsLength s) (c .readings)) (cutsLength s) (c .cuts) in
-    (k .checked .fits, k .checked .sound, days-kept s (accountOf s) (cuts-kept s (cutsLength s)))
+    let k = cuts-read s (c .span) (c .readings) (cutsLength s) (c .cuts) in
+    (k .checked .fits, k .checked .sound, case-long s .days-are)
 
 pub case-taken : CaseTaken
 case-taken s e =
     let c = clean-of s e in
-    let start = empty-holds s (c .span) in
-    let all = readings-sound s (c .span) (readingsLength s) (c .readings) in (
+    let start = empty-holds s (c .span) in (
       rw (start .checked .fits, sound-parts (emptyCase s) (start .checked .sound) .weights) refl,
       λ i l.
           let f = none-before (readingFault s) (readingsLength s) i l (c .readings) in
-          let g = sane s i f in
-          let r = readings-sound s (c .span) i (first-few (readingFault s) (readingsLength s) i l (c .readings)) in
-          sym (reading-agrees s i r (g .long) (g .rising)) ∙ ap faultNumber f,
+          let g = sane-reading s (readingsOffset s) (daysOf s) i f .boundary in
+          sym (case-reading s i (c .span) (first-few (readingFault s) (readingsLength s) i l (c .readings)) (g .long) (g .rising)) ∙ ap faultNumber f,
       λ i l.
           let f = none-before (cutFault s) (cutsLength s) i l (c .cuts) in
-          let g = sane-cut s i f in
-          let p = cuts-sound s all i (first-few (cutFault s) (cutsLength s) i l (c .cuts)) in
-          sym (cut-agrees s i p (g .long) (g .rising)) ∙ ap faultNumber f,
+          let g = sane 2 s (cutsOffset s) (daysOf s) i f in
+          sym (case-cut s i (c .span) (c .readings) (first-few (cutFault s) (cutsLength s) i l (c .cuts)) (g .long) (g .rising)) ∙ ap faultNumber f,
     )

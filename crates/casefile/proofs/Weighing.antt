@@ -1,4 +1,4 @@
--- What a head and means without a fault show, and the weights that they give (Case file). Assumes nothing.
+-- What first bytes and means without a fault show, and the weights that they give (Case file). Assumes nothing.
 use Prim.Native.Nat.{ℕ, zero, suc, _+_, _-_, _≤_, _<_}
 use mathlib.Core.Path.{_≡_, refl, sym, _∙_, ap}
 use mathlib.Core.Bool.{Bool, true, false, cond, not, _&&_}
@@ -17,12 +17,11 @@ use Rattle.common.specs.Lists.{listOf}
 use Rattle.weights.specs.Weights.{weightsOf, WeightsMet}
 use Rattle.common.proofs.Lists.{listOf-length}
 use Rattle.weights.proofs.Span.{weights-length}
-use Rattle.casefile.specs.declared.sections.SectionEnd.{SectionEnd}
-use Rattle.casefile.specs.Bytes.{byte, signed16}
-use Rattle.casefile.specs.Case.{profileByte, weekdayByte, meansLength, meanOffset, firstMeans, meansOf, daysOf}
-use Rattle.casefile.specs.Faults.{noFault, _before_, fault, firstFault, meanFault, headFault, meansFault}
-use Rattle.casefile.specs.Sections.{Reached, Clear, MeansMet, SpanMet, Weighable}
-use Rattle.casefile.proofs.Faults.{no-fault, passes, none-before, clean, stays, joins}
+use Rattle.casefile.specs.Bytes.{byte, number16}
+use Rattle.casefile.specs.Case.{itemAt, meanAt, meansAt}
+use Rattle.casefile.specs.Faults.{noFault, _before_, fault, firstFault, firstBytesFault, meansCountFault, meanFaultAt}
+use Rattle.casefile.specs.Sections.{Weighable}
+use Rattle.casefile.proofs.Faults.{no-fault, passes, none-before}
 
 pub record GoodSpan (n : ℕ) : Type 0 where
   pub least : 1 ≤ n
@@ -33,29 +32,26 @@ good-span n e =
     let b = both (leb 1 n) (leb n spanMost) (not-false (leb 1 n && leb n spanMost) e) in
     record { least = leb-true 1 n (b .0); most = leb-true n spanMost (b .1) }
 
--- a head without a fault
-pub record Head (s : List ℕ) : Type 0 where
-  pub profile-known : profileByte s < profileCount
-  pub weekday-known : weekdayByte s ≤ 6
-  pub long : 4 ≤ length s
-  pub span : GoodSpan (daysOf s)
+-- profile and weekday without a fault, and the count of means
+pub record FirstBytes (s : List ℕ) (at : ℕ) : Type 0 where
+  pub profile-known : byte s at < profileCount
+  pub weekday-known : byte s (at + 1) ≤ 6
+  pub long : at + 2 ≤ length s
 
-pub head-none : (s : List ℕ) → headFault s ≡ noFault → Head s
-head-none s e =
-    let f1 = passes (ltb (length s) 1) 13 (length s) _ e in
-    let f2 = passes (leb profileCount (profileByte s)) 1 0 _ (f1 .1) in
-    let f3 = passes (ltb (length s) 2) 13 (length s) _ (f2 .1) in
-    let f4 = passes (ltb 6 (weekdayByte s)) 2 1 _ (f3 .1) in
-    let f5 = passes (ltb (length s) 4) 13 (length s) _ (f4 .1) in
-    record {
-      profile-known = leb-false _ _ (f2 .0);
-      weekday-known = ltb-false _ _ (f4 .0);
-      long = ltb-false _ _ (f5 .0);
-      span = good-span (daysOf s) (no-fault (badSpan (daysOf s)) 3 2 (f5 .1));
-    }
+pub first-bytes-none : (s : List ℕ) (at : ℕ) → firstBytesFault s at ≡ noFault → FirstBytes s at
+first-bytes-none s at e =
+    let f1 = passes (ltb (length s) (at + 1)) 13 (length s) _ e in
+    let f2 = passes (leb profileCount (byte s at)) 1 at _ (f1 .1) in
+    let f3 = passes (ltb (length s) (at + 2)) 13 (length s) _ (f2 .1) in
+    record { profile-known = leb-false _ _ (f2 .0); weekday-known = ltb-false _ _ (no-fault (ltb 6 (byte s (at + 1))) 2 (at + 1) (f3 .1)); long = ltb-false _ _ (f3 .0) }
 
-pub means-length : (s : List ℕ) (i : ℕ) → length (firstMeans s i) ≡ i
-means-length s i = listOf-length _ i
+pub means-count-none : (s : List ℕ) (at : ℕ) → meansCountFault s at ≡ noFault → (at + 2 ≤ length s) × GoodSpan (number16 s at - 3)
+means-count-none s at e =
+    let f = passes (ltb (length s) (at + 2)) 13 (length s) _ e in
+    (ltb-false _ _ (f .0), good-span (number16 s at - 3) (no-fault (badSpan (number16 s at - 3)) 3 at (f .1)))
+
+pub means-length : (s : List ℕ) (at i : ℕ) → length (meansAt s at i) ≡ i
+means-length s at i = listOf-length _ i
 
 -- one more mean
 out-more : (xs : List ℤ) (t : ℤ) → firstOut (xs ++ (t ∷ [])) ≡ cond (someOut xs) (firstOut xs) (cond (inRange t) (suc (length xs)) (length xs))
@@ -73,30 +69,30 @@ out-more (x ∷ xs) t = go (inRange x) (out-more xs t)
     go false e = rw (lt-ltb 0 (suc (length xs)) (omega arith)) refl
 
 -- the first fault of means that are all there is the first one out of range
-pub means-out : (s : List ℕ) (i : ℕ) → meanOffset i ≤ length s → firstFault (meanFault s) i ≡ fault (someOut (firstMeans s i)) 4 (meanOffset (firstOut (firstMeans s i)))
+pub means-out : (s : List ℕ) (at i : ℕ) → itemAt 2 at i ≤ length s → firstFault (meanFaultAt s at) i ≡ fault (someOut (meansAt s at i)) 4 (itemAt 2 at (firstOut (meansAt s at i)))
 unfolding listOf firstFault
-means-out s zero l = refl
-means-out s (suc i) l =
-    let n = means-length s (suc i) in
-    let t = signed16 s (meanOffset i) in
-    rw (means-out s i (omega arith), le-ltb (length s) (meanOffset i + 2) (omega arith), n, out-more (firstMeans s i) t, means-length s i)
-    (go (ltb (firstOut (firstMeans s i)) i) (inRange t) refl)
+means-out s at zero l = refl
+means-out s at (suc i) l =
+    let n = means-length s at (suc i) in
+    let t = meanAt s at i in
+    rw (means-out s at i (omega arith), le-ltb (length s) (itemAt 2 at i + 2) (omega arith), n, out-more (meansAt s at i) t, means-length s at i)
+    (go (ltb (firstOut (meansAt s at i)) i) (inRange t) refl)
   where
-    go : (a b : Bool) → ltb (firstOut (firstMeans s i)) i ≡ a →
-        (fault a 4 (meanOffset (firstOut (firstMeans s i))) before fault (not b) 4 (meanOffset i)) ≡
-        fault (ltb (cond a (firstOut (firstMeans s i)) (cond b (suc i) i)) (suc i)) 4 (meanOffset (cond a (firstOut (firstMeans s i)) (cond b (suc i) i)))
-    go true b e = rw (lt-ltb (firstOut (firstMeans s i)) (suc i) (omega (arith, ltb-true (firstOut (firstMeans s i)) i e))) refl
+    go : (a b : Bool) → ltb (firstOut (meansAt s at i)) i ≡ a →
+        (fault a 4 (itemAt 2 at (firstOut (meansAt s at i))) before fault (not b) 4 (itemAt 2 at i)) ≡
+        fault (ltb (cond a (firstOut (meansAt s at i)) (cond b (suc i) i)) (suc i)) 4 (itemAt 2 at (cond a (firstOut (meansAt s at i)) (cond b (suc i) i)))
+    go true b e = rw (lt-ltb (firstOut (meansAt s at i)) (suc i) (omega (arith, ltb-true (firstOut (meansAt s at i)) i e))) refl
     go false true e = rw (le-ltb (suc i) (suc i) (omega arith)) refl
     go false false e = rw (lt-ltb i (suc i) (omega arith)) refl
 
 -- means without a fault are all in range
-pub means-in : (s : List ℕ) (i : ℕ) → firstFault (meanFault s) i ≡ noFault → someOut (firstMeans s i) ≡ false
+pub means-in : (s : List ℕ) (at i : ℕ) → firstFault (meanFaultAt s at) i ≡ noFault → someOut (meansAt s at i) ≡ false
 unfolding listOf
-means-in s zero e = refl
-means-in s (suc i) e =
-    let m = passes (ltb (length s) (meanOffset i + 2)) 13 (length s) _ (none-before (meanFault s) (suc i) i (omega arith) e) in
-    let l = ltb-false (length s) (meanOffset i + 2) (m .0) in
-    no-fault (someOut (firstMeans s (suc i))) 4 _ (sym (means-out s (suc i) (omega arith)) ∙ e)
+means-in s at zero e = refl
+means-in s at (suc i) e =
+    let m = passes (ltb (length s) (itemAt 2 at i + 2)) 13 (length s) _ (none-before (meanFaultAt s at) (suc i) i (omega arith) e) in
+    let l = ltb-false (length s) (itemAt 2 at i + 2) (m .0) in
+    no-fault (someOut (meansAt s at (suc i))) 4 _ (sym (means-out s at (suc i) (omega arith)) ∙ e)
 
 drop-zeros : (k n : ℕ) → drop k (replicate {A = ℕ} n 0) ≡ replicate (n - k) 0
 drop-zeros k n = ext-getD 0 (drop k (replicate n 0)) (replicate (n - k) 0) (simp (length-drop, length-replicate)) λ i l.
@@ -115,47 +111,3 @@ weighs {profile} {weekday} {days} {means} {lent} {after} w m =
     let rest : drop days lent ≡ replicate (spanMost - days) 0 = ap (drop days) (w .clear .all-zero) ∙ drop-zeros days (length lent) ∙ ap (λ (n : ℕ). replicate (n - days) 0) (w .clear .long) in
     let long : length (weightsOf profile weekday (take (days + 3) means)) ≡ days = weights-length profile weekday (take (days + 3) means) ∙ omega arith in
     rw (full, rest, long) refl
-
--- from the head, at the start of the file, over the means to the weights
-module _ (s : List ℕ) {head : SectionEnd} (h : Reached (headFault s) (daysOf s) 4 head) where
-  pub head-fault : (weights : List ℕ) → (head .number ≡ 0 → ⊥) → SpanMet s head weights
-  head-fault weights n = record { reached = stays (meansFault s) h n; weighed = λ z. absurd (n z) }
-
-  module _ (z : head .number ≡ 0) where
-    pub known : Head s
-    known = head-none s (clean h z)
-
-    pub asked : (head .next ≡ 4) × (head .days + 3 ≡ meansLength s) × (4 ≤ head .days + 3) × (head .days + 3 ≤ 1099) × (_≡_ {A = ℕ} 1099 1099)
-    asked =
-        let d = h .days-are z in
-        let least = known .span .least in
-        let most = known .span .most in
-        (h .next-is z, omega arith, omega arith, omega arith, refl)
-
-    module _ {span : SectionEnd} {means : List ℤ} (m : MeansMet s span means) where
-      pub means-fault : (weights : List ℕ) → (span .number ≡ 0 → ⊥) → SpanMet s span weights
-      means-fault weights n = record { reached = joins h z (m .reached); weighed = λ e. absurd (n e) }
-
-      module _ (y : span .number ≡ 0) where
-        first-means : take (span .days + 3) means ≡ meansOf s
-        first-means =
-            let d = m .reached .days-are y in
-            let least = known .span .least in
-            let e : span .days + 3 ≡ meansLength s = omega arith in
-            rw e (m .read y)
-
-        pub weighable : {lent : List ℕ} → length means ≡ 1099 → Clear spanMost lent → Weighable (byte s 0) (byte s 1) means (span .days) lent
-        weighable l c =
-            let d = m .reached .days-are y in
-            record {
-              profile-known = known .profile-known;
-              weekday-known = known .weekday-known;
-              least = rw d (known .span .least);
-              most = rw d (known .span .most);
-              enough = omega (arith, known .span .most);
-              means-in-range = rw first-means (means-in s (meansLength s) (clean (m .reached) y));
-              clear = c;
-            }
-
-        pub spans : {weights : List ℕ} → weights ≡ filled spanMost (weightsOf (byte s 0) (byte s 1) (take (span .days + 3) means)) → SpanMet s span weights
-        spans e = record { reached = joins h z (m .reached); weighed = λ _. e ∙ ap (λ (xs : List ℤ). filled spanMost (weightsOf (byte s 0) (byte s 1) xs)) first-means }

@@ -8,8 +8,8 @@ use lib.ListN.{length}
 use Rattle.profile.specs.Limits.{profileCount, inRange, badSpan}
 use Rattle.common.specs.Below.{somewhere}
 use Rattle.account.specs.Account.{energyMost}
-use Rattle.casefile.specs.Bytes.{signed16}
-use Rattle.casefile.specs.Case.{profileByte, weekdayByte, meansLength, meanOffset, daysOf, readingsOffset, readingsLength, readingOffset, readingBoundary, readingCount, cutsOffset, cutsLength, cutOffset, cutBoundary, endOf}
+use Rattle.casefile.specs.Bytes.{byte, number16}
+use Rattle.casefile.specs.Case.{itemAt, meanAt, boundaryAt, readingCountAt, daysOf, readingsOffset, cutsOffset, endOf}
 
 -- no fault, or a refusal with its number and its place
 pub data Fault : Type 0 where
@@ -41,56 +41,96 @@ abbrev pub failsToRise : (ℕ → ℕ) → ℕ → Bool
 failsToRise boundary zero = false
 failsToRise boundary (suc i) = leb (boundary (suc i)) (boundary i)
 
-abbrev pub meanFault : List ℕ → ℕ → Fault
-meanFault s i =
-    early s (meanOffset i + 2) before
-    fault (not (inRange (signed16 s (meanOffset i)))) 4 (meanOffset i)
+-- profile and weekday, from the offset of the first
+abbrev pub firstBytesFault : (s : List ℕ) (at : ℕ) → Fault
+firstBytesFault s at =
+    early s (at + 1) before
+    fault (leb profileCount (byte s at)) 1 at before
+    early s (at + 2) before
+    fault (ltb 6 (byte s (at + 1))) 2 (at + 1)
+
+-- the count of means, and mean i, of the section at an offset
+abbrev pub meansCountFault : (s : List ℕ) (at : ℕ) → Fault
+meansCountFault s at =
+    early s (at + 2) before
+    fault (badSpan (number16 s at - 3)) 3 at
+
+abbrev pub meanFaultAt : (s : List ℕ) (at i : ℕ) → Fault
+meanFaultAt s at i =
+    early s (itemAt 2 at i + 2) before
+    fault (not (inRange (meanAt s at i))) 4 (itemAt 2 at i)
+
+-- the boundary of a reading or a cut, in a span of n days
+abbrev pub boundaryFault : (width : ℕ) (s : List ℕ) (at n i : ℕ) → Fault
+boundaryFault width s at n i =
+    early s (itemAt width at i + width) before
+    fault (failsToRise (boundaryAt width s at) i) 13 (itemAt width at i) before
+    fault (ltb n (boundaryAt width s at i)) 6 (itemAt width at i)
 
 -- boundaries rise, so every other reading is earlier (8), the first is reading 0 and the last is this one (9)
-abbrev pub readingFault : List ℕ → ℕ → Fault
-readingFault s i =
-    early s (readingOffset s i + 10) before
-    fault (failsToRise (readingBoundary s) i) 13 (readingOffset s i) before
-    fault (ltb (daysOf s) (readingBoundary s i)) 6 (readingOffset s i) before
-    fault (somewhere (λ j. ltb (readingCount s i) (readingCount s j)) i) 8 (readingOffset s i + 2) before
-    fault (ltb energyMost (readingCount s i - readingCount s 0)) 9 (readingOffset s i + 2)
+abbrev pub readingFaultAt : (s : List ℕ) (at n i : ℕ) → Fault
+readingFaultAt s at n i =
+    boundaryFault 10 s at n i before
+    fault (somewhere (λ j. ltb (readingCountAt s at i) (readingCountAt s at j)) i) 8 (itemAt 10 at i + 2) before
+    fault (ltb energyMost (readingCountAt s at i - readingCountAt s at 0)) 9 (itemAt 10 at i + 2)
 
-abbrev pub cutFault : List ℕ → ℕ → Fault
-cutFault s i =
-    early s (cutOffset s i + 2) before
-    fault (failsToRise (cutBoundary s) i) 13 (cutOffset s i) before
-    fault (ltb (daysOf s) (cutBoundary s i)) 6 (cutOffset s i)
+abbrev pub cutFaultAt : (s : List ℕ) (at n i : ℕ) → Fault
+cutFaultAt = boundaryFault 2
 
--- the first fault of each section: profile, weekday and the count of means ..
+-- the first fault of the items of a section, and of a section that has no rule for its count
+abbrev pub itemsFault : (s : List ℕ) (at : ℕ) → (ℕ → Fault) → Fault
+itemsFault s at item = firstFault item (number16 s at)
+
+abbrev pub sectionFault : (s : List ℕ) (at : ℕ) → (ℕ → Fault) → Fault
+sectionFault s at item = early s (at + 2) before itemsFault s at item
+
+-- the sections by where they start: profile and weekday with the count of means, and with the means ..
+abbrev pub headFaultAt : (s : List ℕ) (at : ℕ) → Fault
+headFaultAt s at = firstBytesFault s at before meansCountFault s (at + 2)
+
+abbrev pub spanFaultAt : (s : List ℕ) (at : ℕ) → Fault
+spanFaultAt s at = headFaultAt s at before itemsFault s (at + 2) (meanFaultAt s (at + 2))
+
+-- .. the readings and the cuts of n days ..
+abbrev pub readingsFaultAt : (s : List ℕ) (at n : ℕ) → Fault
+readingsFaultAt s at n = sectionFault s at (readingFaultAt s at n)
+
+abbrev pub cutsFaultAt : (s : List ℕ) (at n : ℕ) → Fault
+cutsFaultAt s at n = sectionFault s at (cutFaultAt s at n)
+
+-- .. and 13: "has bytes left (place: the first)", after the last section
+abbrev pub leftOver : (s : List ℕ) (at : ℕ) → Fault
+leftOver s at = fault (ltb at (length s)) 13 at
+
+-- the same, where the layout has them
 abbrev pub headFault : List ℕ → Fault
-headFault s =
-    early s 1 before
-    fault (leb profileCount (profileByte s)) 1 0 before
-    early s 2 before
-    fault (ltb 6 (weekdayByte s)) 2 1 before
-    early s 4 before
-    fault (badSpan (daysOf s)) 3 2
+headFault s = headFaultAt s 0
 
--- .. the means, the readings, and the cuts with the end of the file
-abbrev pub meansFault : List ℕ → Fault
-meansFault s = firstFault (meanFault s) (meansLength s)
+abbrev pub meanFault : List ℕ → ℕ → Fault
+meanFault s = meanFaultAt s 2
+
+abbrev pub readingFault : List ℕ → ℕ → Fault
+readingFault s = readingFaultAt s (readingsOffset s) (daysOf s)
 
 abbrev pub readingsFault : List ℕ → Fault
-readingsFault s = early s (readingsOffset s + 2) before firstFault (readingFault s) (readingsLength s)
+readingsFault s = readingsFaultAt s (readingsOffset s) (daysOf s)
+
+abbrev pub cutFault : List ℕ → ℕ → Fault
+cutFault s = cutFaultAt s (cutsOffset s) (daysOf s)
 
 abbrev pub cutsFault : List ℕ → Fault
-cutsFault s =
-    early s (cutsOffset s + 2) before
-    firstFault (cutFault s) (cutsLength s) before
-    fault (ltb (endOf s) (length s)) 13 (endOf s)
+cutsFault s = cutsFaultAt s (cutsOffset s) (daysOf s)
 
--- the first fault up to the end of the means, and of the readings
+-- the first fault up to the end of the means, of the readings, and of the cuts
 abbrev pub spanFault : List ℕ → Fault
-spanFault s = headFault s before meansFault s
+spanFault s = spanFaultAt s 0
 
 abbrev pub beforeCutsFault : List ℕ → Fault
 beforeCutsFault s = spanFault s before readingsFault s
 
+abbrev pub sectionsFault : List ℕ → Fault
+sectionsFault s = beforeCutsFault s before cutsFault s
+
 -- the first fault of a file, front to back
 abbrev pub faultOf : List ℕ → Fault
-faultOf s = headFault s before meansFault s before readingsFault s before cutsFault s
+faultOf s = sectionsFault s before leftOver s (endOf s)

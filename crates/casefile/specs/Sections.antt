@@ -1,5 +1,5 @@
 -- The sections of a case file one by one (Case file, If a call declines): what the reader's private functions promise on its way
--- "front to back".
+-- "front to back". Each is over the offset `at` where its section starts.
 use Prim.Native.Nat.{ℕ, zero, suc, _+_, _-_, _≤_, _<_}
 use mathlib.Core.Path.{_≡_}
 use mathlib.Core.Bool.{false}
@@ -9,13 +9,13 @@ use lib.IntN.{ℤ}
 use lib.ListN.{length, take}
 use Rattle.profile.specs.Limits.{profileCount, spanLeast, spanMost}
 use Rattle.common.specs.Rows.{zeros}
-use Rattle.account.specs.Account.{Account, energyMost}
+use Rattle.account.specs.Account.{Account, account, energyMost}
 use Rattle.weights.specs.Means.{someOut}
 use Rattle.casefile.specs.declared.sections.SectionEnd.{SectionEnd}
 use Rattle.casefile.specs.declared.readings.Reading.{Reading}
 use Rattle.casefile.specs.Bytes.{number16, number64}
-use Rattle.casefile.specs.Case.{meansLength, meansOf, daysOf, readingsOffset, readingsLength, readingOffset, cutsOffset, cutsLength, cutOffset, endOf, emptyCase, withReadings, accountOf}
-use Rattle.casefile.specs.Faults.{Fault, noFault, refused, _before_, fault, early, meansFault, faultOf, spanFault, beforeCutsFault}
+use Rattle.casefile.specs.Case.{endAt, meansAt, readingsPut, cutsPut, meansLength, meansOf, daysOf, readingsOffset, readingsLength, cutsOffset, cutsLength, endOf, accountOf}
+use Rattle.casefile.specs.Faults.{Fault, noFault, refused, _before_, fault, early, spanFaultAt, readingsFaultAt, cutsFaultAt, leftOver, sectionsFault, faultOf}
 use Rattle.casefile.specs.Reader.{full}
 
 -- the fault that a number and its place tell; 0 is none
@@ -23,16 +23,36 @@ abbrev pub told : ℕ → ℕ → Fault
 told zero place = noFault
 told (suc number) place = refused (suc number) place
 
+abbrev pub toldBy : SectionEnd → Fault
+toldBy p = told (p .number) (p .place)
+
 -- the reader met the fault f, or, where that is none, has read n and stands at the offset `next`
 pub record Reached (f : Fault) (n next : ℕ) (p : SectionEnd) : Type 0 where
-  pub tells : told (p .number) (p .place) ≡ f
+  pub tells : toldBy p ≡ f
   pub days-are : p .number ≡ 0 → p .days ≡ n
-  pub next-is : p .number ≡ 0 → p .next ≡ next
+  pub stands : p .number ≡ 0 → p .place ≡ next
 
--- the means, or their fault
-pub record MeansMet (s : List ℕ) (p : SectionEnd) (means : List ℤ) : Type 0 where
-  pub reached : Reached (meansFault s) (daysOf s) (readingsOffset s) p
-  pub read : p .number ≡ 0 → take (meansLength s) means ≡ meansOf s
+-- a section is read for a span of at most 1,096 days, from within the file, where nothing before it has a fault
+pub record Goes (s : List ℕ) (at : ℕ) (so-far : SectionEnd) : Type 0 where
+  pub near : so-far .number ≡ 0 → at ≤ length s
+  pub span : so-far .number ≡ 0 → so-far .days ≤ spanMost
+
+-- the means of the section, asked for a buffer that holds as many as a span can have
+pub record MeansAsked (s : List ℕ) (at count : ℕ) (means : List ℤ) : Type 0 where
+  pub counted : count ≡ number16 s at
+  pub near : at + 2 ≤ length s
+  pub least : spanLeast + 3 ≤ count
+  pub most : count ≤ length means
+  pub long : length means ≡ spanMost + 3
+
+-- the means of the section stand in the buffer, or a fault was met
+pub record MeansMet (s : List ℕ) (at : ℕ) (f : Fault) (p : SectionEnd) (means : List ℤ) : Type 0 where
+  pub reached : Reached f (number16 s at - 3) (endAt 2 s at) p
+  pub read : p .number ≡ 0 → take (number16 s at) means ≡ meansAt s at (number16 s at)
+
+-- profile and weekday, and the means after them
+abbrev pub SpanMet : (s : List ℕ) (at : ℕ) (p : SectionEnd) (means : List ℤ) → Type 0
+SpanMet s at = MeansMet s (at + 2) (spanFaultAt s at)
 
 -- a lent slice of this length, all zero
 pub record Clear (n : ℕ) (lent : List ℕ) : Type 0 where
@@ -49,11 +69,6 @@ pub record Weighable (profile weekday : ℕ) (means : List ℤ) (days : ℕ) (le
   pub means-in-range : someOut (take (days + 3) means) ≡ false
   pub clear : Clear spanMost lent
 
--- profile, weekday and means with the weights that they give, or their fault
-pub record SpanMet (s : List ℕ) (p : SectionEnd) (weights : List ℕ) : Type 0 where
-  pub reached : Reached (spanFault s) (daysOf s) (readingsOffset s) p
-  pub weighed : p .number ≡ 0 → weights ≡ full (emptyCase s) .weights
-
 -- a reading's count, where the count before it is `last` and the first one `first`
 abbrev pub countFault : List ℕ → ℕ → ℕ → ℕ → Fault
 countFault s at first last =
@@ -63,9 +78,9 @@ countFault s at first last =
 -- a reading at an offset, where boundaries below `low` fail to rise
 abbrev pub itemFault : List ℕ → ℕ → ℕ → ℕ → ℕ → ℕ → Fault
 itemFault s at low n first last =
-    early s (at + 10) before
+    (early s (at + 10) before
     fault (ltb (number16 s at) low) 13 at before
-    fault (ltb n (number16 s at)) 6 at before
+    fault (ltb n (number16 s at)) 6 at) before
     countFault s at first last
 
 -- a fault, or where there is none a reading with this boundary and count
@@ -82,54 +97,41 @@ CountedMet s at boundary first last = ReadingTold (countFault s at first last) b
 abbrev pub ItemMet : (s : List ℕ) (at low n first last : ℕ) → Reading → Type 0
 ItemMet s at low n first last = ReadingTold (itemFault s at low n first last) (number16 s at) (number64 s (at + 2))
 
--- the readings from an offset on, asked for slices that hold the empty account
-pub record ReadingsAsked (s : List ℕ) (at count n : ℕ) (marks counts : List ℕ) : Type 0 where
-  pub starts : at ≡ readingOffset s 0
-  pub counted : count ≡ readingsLength s
-  pub days-are : n ≡ daysOf s
+-- the items of a section, asked for a span of n days
+pub record ItemsAsked (s : List ℕ) (at count n : ℕ) : Type 0 where
+  pub counted : count ≡ number16 s at
   pub few : count < 65536
-  pub near : at ≤ length s
+  pub near : at + 2 ≤ length s
   pub span : n ≤ spanMost
-  pub marks-are : marks ≡ full (emptyCase s) .marks
-  pub counts-are : counts ≡ full (emptyCase s) .counts
-  pub marks-long : length marks ≡ spanMost + 1
-  pub counts-long : length counts ≡ spanMost + 1
 
--- the slices hold the readings, or the section's end tells a fault of the file
-pub record ReadingsMet (s : List ℕ) (f : Fault) (p : SectionEnd) (marks counts : List ℕ) : Type 0 where
-  pub reached : Reached f (daysOf s) (cutsOffset s) p
-  pub marks-are : p .number ≡ 0 → marks ≡ full (withReadings s (readingsLength s)) .marks
-  pub counts-are : p .number ≡ 0 → counts ≡ full (withReadings s (readingsLength s)) .counts
+-- the readings of the section are put into marks and counts, whatever the weights, or a fault was met
+pub record ReadingsMet (s : List ℕ) (at n : ℕ) (f : Fault) (marks counts : List ℕ) (p : SectionEnd) (marks-after counts-after : List ℕ) : Type 0 where
+  pub reached : Reached f n (endAt 10 s at) p
+  pub puts : p .number ≡ 0 → (w : List ℕ) → account w marks-after counts-after ≡ readingsPut (account w marks counts) s at (number16 s at)
 
--- the readings, after a span that is read or has a fault
-pub record ReadingsFrom (s : List ℕ) (at : ℕ) (so-far : SectionEnd) (marks counts : List ℕ) : Type 0 where
-  pub reached : Reached (spanFault s) (daysOf s) (readingsOffset s) so-far
-  pub follows : at ≡ so-far .next
-  pub marks-clear : Clear (spanMost + 1) marks
-  pub counts-clear : Clear (spanMost + 1) counts
+-- the cuts of the section are put into the marks, whatever weights and counts, or a fault was met
+pub record CutsMet (s : List ℕ) (at n : ℕ) (f : Fault) (marks : List ℕ) (p : SectionEnd) (marks-after : List ℕ) : Type 0 where
+  pub reached : Reached f n (endAt 2 s at) p
+  pub puts : p .number ≡ 0 → (w c : List ℕ) → account w marks-after c ≡ cutsPut (account w marks c) s at (number16 s at)
 
--- the cuts from an offset on, asked for marks that hold the readings
-pub record CutsAsked (s : List ℕ) (at count n : ℕ) (marks : List ℕ) : Type 0 where
-  pub starts : at ≡ cutOffset s 0
-  pub counted : count ≡ cutsLength s
-  pub days-are : n ≡ daysOf s
-  pub few : count < 65536
-  pub near : at ≤ length s
-  pub span : n ≤ spanMost
-  pub marks-are : marks ≡ full (withReadings s (readingsLength s)) .marks
-  pub marks-long : length marks ≡ spanMost + 1
+-- each of the two sections after what was read before it
+abbrev pub ReadingsAfter : (s : List ℕ) (at : ℕ) (so-far : SectionEnd) (marks counts : List ℕ) (p : SectionEnd) (marks-after counts-after : List ℕ) → Type 0
+ReadingsAfter s at so-far = ReadingsMet s at (so-far .days) (toldBy so-far before readingsFaultAt s at (so-far .days))
 
--- the marks hold the readings and the cuts, or the section's end tells a fault of the file
-pub record CutsMet (s : List ℕ) (f : Fault) (p : SectionEnd) (marks : List ℕ) : Type 0 where
-  pub reached : Reached f (daysOf s) (endOf s) p
-  pub marks-are : p .number ≡ 0 → marks ≡ full (accountOf s) .marks
+abbrev pub CutsAfter : (s : List ℕ) (at : ℕ) (so-far : SectionEnd) (marks : List ℕ) (p : SectionEnd) (marks-after : List ℕ) → Type 0
+CutsAfter s at so-far = CutsMet s at (so-far .days) (toldBy so-far before cutsFaultAt s at (so-far .days))
 
--- the cuts, after readings that are read or have a fault
-pub record CutsFrom (s : List ℕ) (at : ℕ) (so-far : SectionEnd) (marks : List ℕ) : Type 0 where
-  pub reached : Reached (beforeCutsFault s) (daysOf s) (cutsOffset s) so-far
-  pub follows : at ≡ so-far .next
-  pub marks-are : so-far .number ≡ 0 → marks ≡ full (withReadings s (readingsLength s)) .marks
-  pub marks-long : length marks ≡ spanMost + 1
+-- the sections of the layout, one after the other
+pub record SectionsMet (s marks counts : List ℕ) (p : SectionEnd) (means : List ℤ) (marks-after counts-after : List ℕ) : Type 0 where
+  pub reached : Reached (sectionsFault s) (daysOf s) (endOf s) p
+  pub read : p .number ≡ 0 → take (meansLength s) means ≡ meansOf s
+  pub puts : p .number ≡ 0 → (w : List ℕ) →
+      account w marks-after counts-after ≡
+      cutsPut (readingsPut (account w marks counts) s (readingsOffset s) (readingsLength s)) s (cutsOffset s) (cutsLength s)
+
+-- the file ends where its last section does, or has bytes left over there
+abbrev pub EndedMet : (s : List ℕ) (so-far p : SectionEnd) → Type 0
+EndedMet s so-far = Reached (toldBy so-far before leftOver s (so-far .place)) (so-far .days) (so-far .place)
 
 -- slices of full length, all zero
 pub record AllClear (lent : Account) : Type 0 where

@@ -10,8 +10,12 @@ mod span;
 use clear::clear;
 use profile::Profile;
 use reader::fill;
+use sections::SectionEnd;
+use sections::ended;
+use span::weigh;
 ghost use Rattle.account.specs.Account.{accountIn};
 ghost use Rattle.casefile.specs.Reader.{number, place, days, ReadMet};
+ghost use Rattle.casefile.specs.Sections.{AllClear, FillMet};
 
 // What the reader answers: n, or a row of the table with its place.
 pub enum CaseAnswer {
@@ -38,10 +42,29 @@ pub fn read_case(
         return CaseAnswer::Refused(3, 0);
     }
     clear(weights, marks, counts);
-    let case = fill(file, weights, marks, counts);
+    let case = read_sections(file, weights, marks, counts);
     if case.number != 0 {
         clear(weights, marks, counts);
         return CaseAnswer::Refused(case.number, case.place);
     }
     CaseAnswer::Days(case.days)
+}
+
+// The sections of a file into cleared slices, and the weights of its means.
+fn read_sections(
+    file: &[u8],
+    weights: &mut [u32],
+    marks: &mut [u8],
+    counts: &mut [u64],
+) -> SectionEnd
+    requires { ⌜ AllClear (accountIn weights marks counts) ⌝ }
+    ensures { λ p. ⌜ FillMet (now (file .entry)) p (accountIn (weights .exit) (marks .exit) (counts .exit)) ⌝ }
+{
+    let mut means = [0i16; Profile::SPAN_MOST + 3];
+    let end = ended(file, fill(file, &mut means, marks, counts));
+    if end.number != 0 {
+        return end;
+    }
+    weigh(file[0], file[1], &means, end.days, weights);
+    end
 }

@@ -4,10 +4,10 @@ use crate::readings::readings_at;
 use crate::sections::SectionEnd;
 use crate::span::span_at;
 ghost use mathlib.Core.Path.{_≡_};
-ghost use Rattle.account.specs.Account.{accountIn};
+ghost use Prim.Native.Nat.{_+_, _≤_};
+ghost use lib.ListN.{length};
 ghost use Rattle.profile.specs.Limits.{spanMost};
-ghost use Rattle.casefile.specs.Faults.{faultOf, beforeCutsFault};
-ghost use Rattle.casefile.specs.Sections.{Clear, AllClear, SpanMet, ReadingsFrom, ReadingsMet, CutsFrom, CutsMet, FillMet};
+ghost use Rattle.casefile.specs.Sections.{Goes, Clear, SpanMet, ReadingsAfter, CutsAfter, SectionsMet};
 
 pub struct Reader<'a> {
     pub file: &'a [u8],
@@ -29,11 +29,11 @@ fn moved<'a>(r: Reader<'a>, at: usize) -> Reader<'a>
 }
 
 // Profile, weekday and means.
-fn span<'a>(r: Reader<'a>, weights: &mut [u32]) -> SectionEnd
-    requires { ⌜ (r .at ≡ 0) × Clear spanMost (now weights) ⌝ }
-    ensures { λ p. ⌜ SpanMet (now (r .entry .file)) p (now (weights .exit)) ⌝ }
+fn span<'a>(r: Reader<'a>, means: &mut [i16]) -> SectionEnd
+    requires { ⌜ (r .at ≤ length (now (r .file))) × (length (now means) ≡ spanMost + 3) ⌝ }
+    ensures { λ p. ⌜ SpanMet (now (r .entry .file)) (r .entry .at) p (now (means .exit)) ⌝ }
 {
-    span_at(r.file, r.at, weights)
+    span_at(r.file, r.at, means)
 }
 
 fn readings<'a>(
@@ -42,16 +42,15 @@ fn readings<'a>(
     marks: &mut [u8],
     counts: &mut [u64],
 ) -> SectionEnd
-    requires { ⌜ ReadingsFrom (now (r .file)) (r .at) before (now marks) (now counts) ⌝ }
-    ensures { λ p. ⌜ ReadingsMet (now (r .entry .file)) (beforeCutsFault (now (r .entry .file))) p (now (marks .exit)) (now (counts .exit)) ⌝ }
+    requires { ⌜ Goes (now (r .file)) (r .at) before × Clear (spanMost + 1) (now marks) × (length (now counts) ≡ spanMost + 1) ⌝ }
+    ensures { λ p. ⌜ ReadingsAfter (now (r .entry .file)) (r .entry .at) before (now (marks .entry)) (now (counts .entry)) p (now (marks .exit)) (now (counts .exit)) ⌝ }
 {
     readings_at(r.file, r.at, before, marks, counts)
 }
 
-// The cuts and the end of the file.
 fn cuts<'a>(r: Reader<'a>, before: SectionEnd, marks: &mut [u8]) -> SectionEnd
-    requires { ⌜ CutsFrom (now (r .file)) (r .at) before (now marks) ⌝ }
-    ensures { λ p. ⌜ CutsMet (now (r .entry .file)) (faultOf (now (r .entry .file))) p (now (marks .exit)) ⌝ }
+    requires { ⌜ Goes (now (r .file)) (r .at) before × (length (now marks) ≡ spanMost + 1) ⌝ }
+    ensures { λ p. ⌜ CutsAfter (now (r .entry .file)) (r .entry .at) before (now (marks .entry)) p (now (marks .exit)) ⌝ }
 {
     cuts_at(r.file, r.at, before, marks)
 }
@@ -59,17 +58,17 @@ fn cuts<'a>(r: Reader<'a>, before: SectionEnd, marks: &mut [u8]) -> SectionEnd
 // Front to back into cleared slices: plain parameters, so that callers see no reader.
 pub(crate) fn fill(
     file: &[u8],
-    weights: &mut [u32],
+    means: &mut [i16],
     marks: &mut [u8],
     counts: &mut [u64],
 ) -> SectionEnd
-    requires { ⌜ AllClear (accountIn weights marks counts) ⌝ }
-    ensures { λ p. ⌜ FillMet (now (file .entry)) p (accountIn (weights .exit) (marks .exit) (counts .exit)) ⌝ }
+    requires { ⌜ (length (now means) ≡ spanMost + 3) × Clear (spanMost + 1) (now marks) × Clear (spanMost + 1) (now counts) ⌝ }
+    ensures { λ p. ⌜ SectionsMet (now (file .entry)) (now (marks .entry)) (now (counts .entry)) p (now (means .exit)) (now (marks .exit)) (now (counts .exit)) ⌝ }
 {
     let start = new(file);
-    let means_end = span(start, weights);
-    let after_means = moved(start, means_end.next);
+    let means_end = span(start, means);
+    let after_means = moved(start, means_end.place);
     let readings_end = readings(after_means, means_end, marks, counts);
-    let after_readings = moved(after_means, readings_end.next);
+    let after_readings = moved(after_means, readings_end.place);
     cuts(after_readings, readings_end, marks)
 }

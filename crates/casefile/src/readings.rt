@@ -9,9 +9,9 @@ ghost use mathlib.Core.Path.{_≡_};
 ghost use Prim.Native.Nat.{_+_, _≤_, _<_, _^_};
 ghost use lib.ListN.{length};
 ghost use Rattle.casefile.specs.Bytes.{number64};
-ghost use Rattle.casefile.specs.Case.{readingsLength};
-ghost use Rattle.casefile.specs.Faults.{firstFault, readingFault, beforeCutsFault};
-ghost use Rattle.casefile.specs.Sections.{ItemMet, CountedMet, ReadingsAsked, ReadingsFrom, ReadingsMet};
+ghost use Rattle.profile.specs.Limits.{spanMost};
+ghost use Rattle.casefile.specs.Faults.{readingFaultAt, itemsFault};
+ghost use Rattle.casefile.specs.Sections.{Goes, Clear, ItemMet, CountedMet, ItemsAsked, ReadingsMet, ReadingsAfter};
 
 // One reading of the file, or its fault.
 pub(crate) struct Reading {
@@ -82,7 +82,7 @@ fn first_count(file: &[u8], at: usize) -> u64
     0
 }
 
-// Each reading from an offset on, up to the first fault.
+// Each reading of the section at an offset, up to the first fault.
 fn each_reading(
     file: &[u8],
     at: usize,
@@ -91,15 +91,15 @@ fn each_reading(
     marks: &mut [u8],
     counts: &mut [u64],
 ) -> SectionEnd
-    requires { ⌜ ReadingsAsked (now file) at count days (now marks) (now counts) ⌝ }
-    ensures { λ r. ⌜ ReadingsMet (now (file .entry)) (firstFault (readingFault (now (file .entry))) (readingsLength (now (file .entry)))) r (now (marks .exit)) (now (counts .exit)) ⌝ }
+    requires { ⌜ ItemsAsked (now file) at count days × Clear (spanMost + 1) (now marks) × (length (now counts) ≡ spanMost + 1) ⌝ }
+    ensures { λ r. ⌜ ReadingsMet (now (file .entry)) at days (itemsFault (now (file .entry)) at (readingFaultAt (now (file .entry)) at days)) (now (marks .entry)) (now (counts .entry)) r (now (marks .exit)) (now (counts .exit)) ⌝ }
 {
-    let first = first_count(file, at);
+    let first = first_count(file, at + 2);
     let mut last = first;
     let mut low = 0;
     let mut i = 0;
     while i < count {
-        let r = reading_at(file, at + 10 * i, low, days, first, last);
+        let r = reading_at(file, at + 2 + 10 * i, low, days, first, last);
         if r.number != 0 {
             return refused(r.number, r.place);
         }
@@ -110,7 +110,7 @@ fn each_reading(
         last = r.count;
         i += 1;
     }
-    passed(days, at + 10 * count)
+    passed(days, at + 2 + 10 * count)
 }
 
 // The readings' section, where nothing before it has a fault.
@@ -121,8 +121,8 @@ pub(crate) fn readings_at(
     marks: &mut [u8],
     counts: &mut [u64],
 ) -> SectionEnd
-    requires { ⌜ ReadingsFrom (now file) at before (now marks) (now counts) ⌝ }
-    ensures { λ r. ⌜ ReadingsMet (now (file .entry)) (beforeCutsFault (now (file .entry))) r (now (marks .exit)) (now (counts .exit)) ⌝ }
+    requires { ⌜ Goes (now file) at before × Clear (spanMost + 1) (now marks) × (length (now counts) ≡ spanMost + 1) ⌝ }
+    ensures { λ r. ⌜ ReadingsAfter (now (file .entry)) at before (now (marks .entry)) (now (counts .entry)) r (now (marks .exit)) (now (counts .exit)) ⌝ }
 {
     if before.number != 0 {
         return before;
@@ -131,5 +131,5 @@ pub(crate) fn readings_at(
         return refused(13, file.len());
     }
     let count = number16(file, at);
-    each_reading(file, at + 2, count, before.days, marks, counts)
+    each_reading(file, at, count, before.days, marks, counts)
 }

@@ -1,4 +1,4 @@
-// The first sections of a case file: profile, weekday and means, and the weights that they give (Case file).
+// The first sections of a case file: profile, weekday and means; and the weights that they give (Case file).
 use crate::bytes::number16;
 use crate::bytes::signed;
 use crate::sections::SectionEnd;
@@ -6,52 +6,61 @@ use crate::sections::passed;
 use crate::sections::refused;
 use profile::Profile;
 ghost use mathlib.Core.Path.{_≡_};
-ghost use Prim.Native.Nat.{_+_, _≤_};
+ghost use Prim.Native.Nat.{_+_, _-_, _≤_};
 ghost use lib.ListN.{length, take};
-ghost use Rattle.profile.specs.Limits.{spanLeast, spanMost};
+ghost use Rattle.profile.specs.Limits.{spanMost};
 ghost use Rattle.weights.specs.Weights.{weightsOf};
 ghost use Rattle.common.specs.Rows.{filled};
-ghost use Rattle.casefile.specs.Case.{meansLength, daysOf};
-ghost use Rattle.casefile.specs.Sections.{Reached, MeansMet, SpanMet, Clear, Weighable};
-ghost use Rattle.casefile.specs.Faults.{headFault};
+ghost use Rattle.casefile.specs.Bytes.{number16};
+ghost use Rattle.casefile.specs.Faults.{firstBytesFault, meansCountFault, meanFaultAt, itemsFault};
+ghost use Rattle.casefile.specs.Sections.{Reached, MeansAsked, MeansMet, SpanMet, Weighable};
 
-// Profile, weekday and the count of means.
-fn head(file: &[u8]) -> SectionEnd
-    ensures { λ r. ⌜ Reached (headFault (now (file .entry))) (daysOf (now (file .entry))) 4 r ⌝ }
+// Profile and weekday.
+fn first_bytes(file: &[u8], at: usize) -> SectionEnd
+    requires { ⌜ at ≤ length (now file) ⌝ }
+    ensures { λ r. ⌜ Reached (firstBytesFault (now (file .entry)) at) 0 (at + 2) r ⌝ }
 {
-    if file.len() < 1 {
+    if file.len() < at + 1 {
         return refused(13, file.len());
     }
-    if Profile::COUNT <= file[0] {
-        return refused(1, 0);
+    if Profile::COUNT <= file[at] {
+        return refused(1, at);
     }
-    if file.len() < 2 {
+    if file.len() < at + 2 {
         return refused(13, file.len());
     }
-    if 6 < file[1] {
-        return refused(2, 1);
+    if 6 < file[at + 1] {
+        return refused(2, at + 1);
     }
-    if file.len() < 4 {
-        return refused(13, file.len());
-    }
-    let count = number16(file, 2);
-    if count < Profile::SPAN_LEAST + 3 {
-        return refused(3, 2);
-    }
-    if Profile::SPAN_MOST + 3 < count {
-        return refused(3, 2);
-    }
-    passed(count - 3, 4)
+    passed(0, at + 2)
 }
 
-// The means, up to the first fault, into a buffer.
+// The count of means, which is still to be passed.
+fn means_counted(file: &[u8], at: usize) -> SectionEnd
+    requires { ⌜ at ≤ length (now file) ⌝ }
+    ensures { λ r. ⌜ Reached (meansCountFault (now (file .entry)) at) (number16 (now (file .entry)) at - 3) at r ⌝ }
+{
+    if file.len() < at + 2 {
+        return refused(13, file.len());
+    }
+    let count = number16(file, at);
+    if count < Profile::SPAN_LEAST + 3 {
+        return refused(3, at);
+    }
+    if Profile::SPAN_MOST + 3 < count {
+        return refused(3, at);
+    }
+    passed(count - 3, at)
+}
+
+// The means of the section at an offset, up to the first fault, into a buffer.
 fn means_at(file: &[u8], at: usize, count: usize, means: &mut [i16]) -> SectionEnd
-    requires { ⌜ (at ≡ 4) × (count ≡ meansLength (now file)) × (spanLeast + 3 ≤ count) × (count ≤ length (now means)) × (length (now means) ≡ spanMost + 3) ⌝ }
-    ensures { λ r. ⌜ MeansMet (now (file .entry)) r (now (means .exit)) ⌝ }
+    requires { ⌜ MeansAsked (now file) at count (now means) ⌝ }
+    ensures { λ r. ⌜ MeansMet (now (file .entry)) at (itemsFault (now (file .entry)) at (meanFaultAt (now (file .entry)) at)) r (now (means .exit)) ⌝ }
 {
     let mut i = 0;
     while i < count {
-        let place = at + 2 * i;
+        let place = at + 2 + 2 * i;
         if file.len() < place + 2 {
             return refused(13, file.len());
         }
@@ -62,31 +71,29 @@ fn means_at(file: &[u8], at: usize, count: usize, means: &mut [i16]) -> SectionE
         means[i] = mean;
         i += 1;
     }
-    passed(count - 3, at + 2 * count)
+    passed(count - 3, at + 2 + 2 * count)
+}
+
+// Profile, weekday and means.
+pub(crate) fn span_at(file: &[u8], at: usize, means: &mut [i16]) -> SectionEnd
+    requires { ⌜ (at ≤ length (now file)) × (length (now means) ≡ spanMost + 3) ⌝ }
+    ensures { λ r. ⌜ SpanMet (now (file .entry)) at r (now (means .exit)) ⌝ }
+{
+    let first = first_bytes(file, at);
+    if first.number != 0 {
+        return first;
+    }
+    let head = means_counted(file, first.place);
+    if head.number != 0 {
+        return head;
+    }
+    means_at(file, head.place, head.days + 3, means)
 }
 
 // The weights of a span, from the first means of the buffer into the first of the lent weights.
-fn weigh(profile: u8, weekday: u8, means: &[i16], days: usize, weights: &mut [u32])
+pub(crate) fn weigh(profile: u8, weekday: u8, means: &[i16], days: usize, weights: &mut [u32])
     requires { ⌜ Weighable profile weekday (now means) days (now weights) ⌝ }
     ensures { λ r. ⌜ now (weights .exit) ≡ filled spanMost (weightsOf profile weekday (take (days + 3) (now (means .entry)))) ⌝ }
 {
     weights::weights(profile, weekday, &means[..days + 3], &mut weights[..days]);
-}
-
-// Profile, weekday and means: the span and its weights.
-pub(crate) fn span_at(file: &[u8], at: usize, weights: &mut [u32]) -> SectionEnd
-    requires { ⌜ (at ≡ 0) × Clear spanMost (now weights) ⌝ }
-    ensures { λ r. ⌜ SpanMet (now (file .entry)) r (now (weights .exit)) ⌝ }
-{
-    let head = head(file);
-    if head.number != 0 {
-        return head;
-    }
-    let mut means = [0i16; Profile::SPAN_MOST + 3];
-    let span = means_at(file, head.next, head.days + 3, &mut means);
-    if span.number != 0 {
-        return span;
-    }
-    weigh(file[at], file[at + 1], &means, span.days, weights);
-    span
 }

@@ -10,7 +10,7 @@ use Rattle.account.specs.Calls.{OpenMet}
 use Rattle.history.specs.Run.{Event, Step, Run}
 use Rattle.history.specs.Run as run
 use Rattle.history.proofs.Theorem.{demand3}
-use Rattle.casefile.specs.Case.{readingsLength, cutsLength, emptyCase, withReadings, withCuts}
+use Rattle.casefile.specs.Case.{readingsPut, cutsPut, readingsLength, cutsLength, emptyCase, withReadings, withCuts}
 use Rattle.casefile.specs.Faults.{noFault, faultOf}
 use Rattle.casefile.proofs.Sound.{case-taken}
 use Rattle.report.specs.Calls.{readingCalls, cutCalls, FileDemand3}
@@ -24,14 +24,14 @@ one-more a b es e leads step fs r = subst (Run a) (sym (append-assoc es (e ∷ [
 
 module _ (s : List ℕ) (e : faultOf s ≡ noFault) where
   readings-lead : (i : ℕ) → i ≤ readingsLength s → Leads (emptyCase s) (readingCalls s i) (withReadings s i)
-  unfolding readingCalls withReadings
+  unfolding readingCalls readingsPut
   readings-lead zero l = λ fs r. r
   readings-lead (suc i) l =
       let done = case-taken s e .1 i (omega arith) in
       one-more (emptyCase s) (withReadings s i) (readingCalls s i) _ (readings-lead i (omega arith)) (record { answers = sym done; leaves = rw done refl })
 
   cuts-lead : (i : ℕ) → i ≤ cutsLength s → Leads (emptyCase s) (cutCalls s i) (withCuts s i)
-  unfolding cutCalls withCuts
+  unfolding cutCalls cutsPut
   cuts-lead zero l = readings-lead (readingsLength s) (omega arith)
   cuts-lead (suc i) l =
       let done = case-taken s e .2 i (omega arith) in

@@ -14,14 +14,14 @@ use Rattle.casefile.specs.Reader.{faultNumber, unfitSlices}
 use Rattle.casefile.proofs.Longest.{longest}
 use Rattle.casefile.proofs.Enough.{enough}
 use Rattle.report.specs.Report.{textOf, EnoughText}
-use Rattle.report.proofs.Taken.{file-numbered}
+use Rattle.casefile.proofs.Agreed.{file-numbered}
 
 -- a file in fitting slices: where it has a fault the text is the fault's, and else it is no longer than what is read
 fitting : (s : List ℕ) → textOf (faultOf (take bytesRead s)) (take bytesRead s) ≡ textOf (faultOf s) s
 fitting s = ap (λ (v : Fault). textOf v (take bytesRead s)) (enough s) ∙ go (decLt 0 (faultNumber (faultOf s)))
   where
     go : Dec (0 < faultNumber (faultOf s)) → textOf (faultOf s) (take bytesRead s) ≡ textOf (faultOf s) s
-    go (no n) = ap (textOf (faultOf s)) (take-all bytesRead s (omega (arith, longest .most s (file-numbered s .none-if (omega arith)))))
+    go (no n) = ap (textOf (faultOf s)) (take-all bytesRead s (omega (arith, longest .most s (file-numbered s (omega arith)))))
     go (yes l) = simp (ne-eqb (faultNumber (faultOf s)) 0 (λ z. omega (arith, z)))
 
 pub enough-text : EnoughText

@@ -1,84 +1,24 @@
 -- A file that the reader takes or refuses (Case file): what the slices then hold, and its text. Assumes nothing.
-use Prim.Native.Nat.{ℕ, zero, suc, _+_, _-_, _≤_}
+use Prim.Native.Nat.{ℕ, _+_, _-_, _≤_}
 use mathlib.Core.Path.{_≡_, refl, sym, ap, ap₂, _∙_}
-use mathlib.Core.Bool.{Bool, true, false, not}
+use mathlib.Core.Bool.{true, false}
 use mathlib.Core.List.{List}
 use native.Mathlib.Omega.{arith}
 use borrow.Author.Tests.{ne-eqb}
-use lib.Dec.{ltb, leb}
 use lib.ListN.{length, take, replicate, length-append}
 use lib.Seq.{take-at}
-use Rattle.profile.specs.Limits.{profileCount, spanMost, inRange, badSpan}
-use Rattle.account.specs.Account.{Account, account, unfit, energyMost}
-use Rattle.common.specs.Below.{somewhere}
+use Rattle.profile.specs.Limits.{spanMost}
+use Rattle.account.specs.Account.{Account, account, unfit}
 use Rattle.common.proofs.Below.{clash, refuted}
 use Rattle.layout.specs.Text.{refusalText}
-use Rattle.casefile.specs.Case.{profileByte, weekdayByte, meansLength, meanOffset, daysOf, readingsOffset, readingsLength, readingOffset, readingBoundary, readingCount, cutsOffset, cutsLength, cutOffset, cutBoundary, endOf, accountOf}
-use Rattle.casefile.specs.Bytes.{signed16}
-use Rattle.casefile.specs.Faults.{Fault, noFault, refused, fault, _before_, firstFault, early, failsToRise, meanFault, readingFault, cutFault, faultOf, headFault, meansFault, readingsFault}
+use Rattle.casefile.specs.Case.{daysOf, accountOf}
+use Rattle.casefile.specs.Faults.{faultOf}
 use Rattle.common.specs.Rows.{filled}
 use Rattle.casefile.specs.Reader.{faultNumber, faultPlace, unfitSlices, verdict, full, ReadMet}
-use Rattle.casefile.proofs.Kept.{Kept, cuts-kept}
-use Rattle.casefile.proofs.Sound.{days-kept, case-sound}
+use Rattle.casefile.proofs.Sound.{case-long, case-sound}
+use Rattle.casefile.proofs.Agreed.{file-numbered}
 use Rattle.layout.specs.Accounts.{accountText}
 use Rattle.report.specs.Report.{caseText}
-
--- a fault that the paper has a number for
-pub record Numbered (f : Fault) : Type 0 where
-  pub none-if : faultNumber f ≡ 0 → f ≡ noFault
-
-numbered-fault : (b : Bool) (n p : ℕ) → Numbered (fault b (suc n) p)
-numbered-fault true n p = record { none-if = λ e. absurd (omega (arith, e)) }
-numbered-fault false n p = record { none-if = λ e. refl }
-
-numbered-before : (f g : Fault) → Numbered f → Numbered g → Numbered (f before g)
-numbered-before noFault g a b = b
-numbered-before (refused n k) g a b = record { none-if = a .none-if }
-
-numbered-first : (f : ℕ → Fault) → ((i : ℕ) → Numbered (f i)) → (m : ℕ) → Numbered (firstFault f m)
-unfolding firstFault
-numbered-first f all zero = record { none-if = λ e. refl }
-numbered-first f all (suc m) = numbered-before (firstFault f m) (f m) (numbered-first f all m) (all m)
-
--- the faults of a condition, and those after it
-then : (b : Bool) (n p : ℕ) (g : Fault) → Numbered g → Numbered (fault b (suc n) p before g)
-then b n p g after = numbered-before (fault b (suc n) p) g (numbered-fault b n p) after
-
-module _ (s : List ℕ) where
-  ends : (to : ℕ) (g : Fault) → Numbered g → Numbered (early s to before g)
-  ends to g after = then (ltb (length s) to) 12 (length s) g after
-
-  mean-numbered : (i : ℕ) → Numbered (meanFault s i)
-  mean-numbered i = ends (meanOffset i + 2) _ (numbered-fault (not (inRange (signed16 s (meanOffset i)))) 3 (meanOffset i))
-
-  reading-numbered : (i : ℕ) → Numbered (readingFault s i)
-  reading-numbered i =
-      ends (readingOffset s i + 10) _ (
-      then (failsToRise (readingBoundary s) i) 12 (readingOffset s i) _ (
-      then (ltb (daysOf s) (readingBoundary s i)) 5 (readingOffset s i) _ (
-      then (somewhere (λ j. ltb (readingCount s i) (readingCount s j)) i) 7 (readingOffset s i + 2) _
-      (numbered-fault (ltb energyMost (readingCount s i - readingCount s 0)) 8 (readingOffset s i + 2)))))
-
-  cut-numbered : (i : ℕ) → Numbered (cutFault s i)
-  cut-numbered i =
-      ends (cutOffset s i + 2) _ (
-      then (failsToRise (cutBoundary s) i) 12 (cutOffset s i) _
-      (numbered-fault (ltb (daysOf s) (cutBoundary s i)) 5 (cutOffset s i)))
-
-  pub file-numbered : Numbered (faultOf s)
-  file-numbered =
-      numbered-before (headFault s) _ (
-      ends 1 _ (
-      then (leb profileCount (profileByte s)) 0 0 _ (
-      ends 2 _ (
-      then (ltb 6 (weekdayByte s)) 1 1 _ (
-      ends 4 _
-      (numbered-fault (badSpan (daysOf s)) 2 2)))))) (
-      numbered-before (meansFault s) _ (numbered-first (meanFault s) mean-numbered (meansLength s)) (
-      numbered-before (readingsFault s) _ (ends (readingsOffset s + 2) _ (numbered-first (readingFault s) reading-numbered (readingsLength s))) (
-      ends (cutsOffset s + 2) _ (
-      numbered-before (firstFault (cutFault s) (cutsLength s)) _ (numbered-first (cutFault s) cut-numbered (cutsLength s))
-      (numbered-fault (ltb (endOf s) (length s)) 12 (endOf s))))))
 
 -- a list and the zeros after it: its start is the list, and it is at least as long
 filled-starts : (m : ℕ) (xs : List ℕ) (n : ℕ) → length xs ≡ n → take n (filled m xs) ≡ xs
@@ -100,9 +40,9 @@ module _ (s : List ℕ) (lent : Account) (accepted : faultNumber (verdict s lent
   -- such a file has days
   some-days : daysOf s ≡ 0 → ⊥
   some-days z =
-      let none-is = days-kept s (accountOf s) (cuts-kept s (cutsLength s)) ∙ z in
+      let none-is = case-long s .days-are ∙ z in
       let bad : unfit (accountOf s) ≡ true = rw none-is refl in
-      clash bad (case-sound s (file-numbered s .none-if clean) .0)
+      clash bad (case-sound s (file-numbered s clean) .0)
 
 module _ (s : List ℕ) (lent : Account) (number place : ℕ) (after : Account) (met : ReadMet s lent number place 0 after s) where
   pub refused-says : caseText s lent ≡ refusalText number place
@@ -121,17 +61,14 @@ module _ (s : List ℕ) (lent : Account) (n : ℕ) (after : Account) (met : Read
   days-are : n ≡ daysOf s
   days-are = met .gives ∙ rw accepted refl
 
-  kept : Kept s (accountOf s)
-  kept = cuts-kept s (cutsLength s)
-
   weights-long : length (accountOf s .weights) ≡ n
-  weights-long = days-kept s (accountOf s) kept ∙ sym days-are
+  weights-long = case-long s .days-are ∙ sym days-are
 
   marks-long : length (accountOf s .marks) ≡ n + 1
-  marks-long = kept .marks-long ∙ ap (λ (k : ℕ). k + 1) (sym days-are)
+  marks-long = case-long s .marks-long ∙ ap (λ (k : ℕ). k + 1) (sym days-are)
 
   counts-long : length (accountOf s .counts) ≡ n + 1
-  counts-long = kept .counts-long ∙ ap (λ (k : ℕ). k + 1) (sym days-are)
+  counts-long = case-long s .counts-long ∙ ap (λ (k : ℕ). k + 1) (sym days-are)
 
   -- the account at the start of the slices is the one that the file names
   taken-is : account (take n (after .weights)) (take (n + 1) (after .marks)) (take (n + 1) (after .counts)) ≡ accountOf s

@@ -37,12 +37,12 @@ clear-requires c κs = search needs
 clear : (c : tie.After-clear) → AllClear (account (c .clear .last .0) (c .clear .last .1 .0) (c .clear .last .1 .1 .0))
 clear c = all-clear (c .clear .ensures) (long (c .before .before .before .before))
 
-fill-requires : tie.Need-fill-requires
-fill-requires c κs = clear (c .before .before .before .before .before .before .before .before .before)
+read-sections-requires : tie.Need-read-sections-requires
+read-sections-requires c κs = clear (c .before .before .before .before .before .before .before .before .before)
 
-filled : (c : tie.After-fill) → Long (account (c .fill .last .1 .0) (c .fill .last .1 .1 .0) (c .fill .last .1 .1 .1 .0))
+filled : (c : tie.After-read-sections) → Long (account (c .read-sections .last .1 .0) (c .read-sections .last .1 .1 .0) (c .read-sections .last .1 .1 .1 .0))
 filled c =
-    let k = c .fill .kept in
+    let k = c .read-sections .kept in
     let l = clear (c .before .before .before .before .before .before .before .before .before .before) in
     record { weights = k .1 .0 ∙ l .weights .long; marks = k .1 .1 .0 ∙ l .marks .long; counts = k .1 .1 .1 .0 ∙ l .counts .long }
 
@@ -59,7 +59,7 @@ same-length-3 : tie.Need-same-length-3
 same-length-3 c = search needs
 
 returns-4 : tie.Need-returns-4
-returns-4 c = refused-met (long (c .before .before .before .before .before .before .before .before .before .before .before .before .before .before .before .before .before .before .before .before .before .before .before .before .before .before .before .before .before .before .before .before)) (c .before .before .before .before .before .before .before .before .before .before .before .before .before .before .before .before .before .before .fill .ensures) (c .before .before .before .before .before .before .before .before .before .before .if4 .taken) (c .before .before .before .before .before .before .clear2 .ensures) (filled (c .before .before .before .before .before .before .before .before .before .before .before .before .before .before .before .before .before .before))
+returns-4 c = refused-met (long (c .before .before .before .before .before .before .before .before .before .before .before .before .before .before .before .before .before .before .before .before .before .before .before .before .before .before .before .before .before .before .before .before)) (c .before .before .before .before .before .before .before .before .before .before .before .before .before .before .before .before .before .before .read-sections .ensures) (c .before .before .before .before .before .before .before .before .before .before .if4 .taken) (c .before .before .before .before .before .before .clear2 .ensures) (filled (c .before .before .before .before .before .before .before .before .before .before .before .before .before .before .before .before .before .before))
 
 same-length-4 : tie.Need-same-length-4
 same-length-4 c = search needs
@@ -71,7 +71,7 @@ same-length-6 : tie.Need-same-length-6
 same-length-6 c = search needs
 
 returns-5 : tie.Need-returns-5
-returns-5 c = days-met (long (c .before .before .before .before .before .before .before .before .before .before .before .before .before .before .before .before .before .before .before .before .before .before)) (c .before .before .before .before .before .before .before .before .fill .ensures) (c .if4 .left)
+returns-5 c = days-met (long (c .before .before .before .before .before .before .before .before .before .before .before .before .before .before .before .before .before .before .before .before .before .before)) (c .before .before .before .before .before .before .before .before .read-sections .ensures) (c .if4 .left)
 
 pub read-case-spec : {M : Type 1} → statement M
 read-case-spec =
@@ -83,7 +83,7 @@ read-case-spec =
     add-if3
     returns-3
     clear-requires
-    fill-requires
+    read-sections-requires
     clear-requires-2
     same-length
     same-length-2

@@ -2,7 +2,7 @@
 -- What the reader owns is kept whole for the exit, and what the section's end owns is had for nothing. The marks are given up for good (`gave-slice`). All that the proof knows of `cuts_at` is that it meets its contract.
 -- Assumes nothing.
 use mathlib.Core.Path.{_≡_, refl}
-use Prim.Native.Nat.{ℕ, _<_, _^_}
+use Prim.Native.Nat.{ℕ, _+_, _<_, _^_}
 use mathlib.Core.List.{List, [], _∷_}
 use lib.Dec.{T as Holds}
 use lib.ListN.{length}
@@ -40,8 +40,8 @@ use denote.Triple.Table.{entered, cited}
 use denote.Triple.Walked.{says, needs, Stays, stay-none, gave-slice, walkOf, goes-none, goes-gave-slice, Walks, ends-at, walked, walk-meets}
 use denote.Exit.{yes}
 use denote.Triple.Clauses.{ensured, lasts}
-use Rattle.casefile.specs.Faults.{faultOf}
-use Rattle.casefile.specs.Sections.{CutsFrom, CutsMet}
+use Rattle.profile.specs.Limits.{spanMost}
+use Rattle.casefile.specs.Sections.{Goes, CutsAfter}
 use Rattle.casefile.specs.declared.reader.Reader.{Reader}
 use Rattle.casefile.specs.declared.sections.SectionEnd.{SectionEnd}
 use Rattle.casefile.proofs.reader.Reader as T
@@ -97,10 +97,10 @@ module _ {M : Type 1} (𝓤 : URA M) (H : Heap 𝓤) (A : Atoms 𝓤) (W : Given
   sm = sliceVal (bm, om) (length ms)
 
   abbrev Asked : Type 0
-  Asked = CutsFrom (now (d .file)) (d .at) p ms
+  Asked = Goes (now (d .file)) (d .at) p × (length ms ≡ spanMost + 1)
 
   abbrev Met : SectionEnd → List ℕ → Type 0
-  Met r zm = CutsMet (now (d .file)) (faultOf (now (d .file))) r zm
+  Met r zm = CutsAfter (now (d .file)) (d .at) p ms r zm
 
   abbrev Post : Val → SProp 𝓤
   Post = walkOf 𝓤 H A self.ended stayed (self.clauses 𝓤 H A mem run) .post ((κs, (q, (q′, tt)), tt, (d, (p, (xm, tt))), (mach ∷ [], (pmach ∷ [], (sm ∷ [], tt)))), tt)
@@ -165,7 +165,7 @@ module _ {M : Type 1} (𝓤 : URA M) (H : Heap 𝓤) (A : Atoms 𝓤) (W : Given
   cuts-walks : (C : Calls 𝓤 H) (Λ : Loops 𝓤 H) → FmC 𝓤 H (W .laws) C → Triple 𝓤 (C #cuts-at) (CutsAt 𝓤 H A mem run) → Walks 𝓤 H A self.ended stayed (WpFn 𝓤 H C Λ code.function) (self.clauses 𝓤 H A mem run)
   cuts-walks C Λ fm known = walked 𝓤 H A self.ended stayed (self.clauses 𝓤 H A mem run) (WpFn 𝓤 H C Λ code.function)
       (λ κs. (LL.vals (D κs) (L κs), (LL.vals P.the-type P′.the-laws, (slice-vals, tt)))) (λ κs. (LL.tells (D κs) (L κs), (LL.tells P.the-type P′.the-laws, (mut-slice-tells (named 1) (κs .1 .0) u8, tt))))
-      (λ κs qs bounds a g are. needs 𝓤 (CutsFrom (a .0 .file .now) (a .0 .at) (a .1 .0) (a .1 .1 .0 .now)) _ (λ φ.
+      (λ κs qs bounds a g are. needs 𝓤 (Goes (a .0 .file .now) (a .0 .at) (a .1 .0) × (length (a .1 .1 .0 .now) ≡ spanMost + 1)) _ (λ φ.
       walk 𝓤 H A W mem run (κs .0) (κs .1 .0) (qs .0) (qs .1 .0) (a .0) (a .1 .0) (a .1 .1 .0 .ptr .0) (a .1 .1 .0 .ptr .1) (a .1 .1 .0 .name) (a .1 .1 .0 .now) (are .1 .0) C Λ fm known
       (LL.lawful (D κs) (L κs) 𝓤 H A W .typed (a .0) _ (are .0) .0) (LL.lawful P.the-type P′.the-laws 𝓤 H A W .typed (a .1 .0) _ (are .1 .0) .0) (are .1 .1 .0 .0 .1) φ))
 

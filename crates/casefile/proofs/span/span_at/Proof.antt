@@ -1,68 +1,44 @@
--- `casefile::span::span_at` meets its contract (Case file): the head, then the means, then their weights, each only where the one before has no fault.
--- Assumes nothing.
+-- `casefile::span::span_at` meets its contract (Case file): the first bytes, then the count of means, then the means, each only where the one before has no
+-- fault. Assumes nothing.
 use native.Mathlib.Omega.{arith}
-use Rattle.casefile.proofs.Weighing.{head-fault, known, asked, means-fault, weighable, spans}
+use Rattle.casefile.proofs.Chained.{first-fault, first-long, head-fault, means-asked, span-met}
 use borrow.Author.Needs.{needs}
 use Rattle.casefile.proofs.span.span_at.Statement.{statement}
 use Rattle.casefile.proofs.span.span_at.Tie as tie
 
-head-requires : tie.Need-head-requires
-head-requires c κs = search needs
+first-bytes-requires : tie.Need-first-bytes-requires
+first-bytes-requires c κs = search needs
 
 returns : tie.Need-returns
-returns c = head-fault _ (c .before .before .head .ensures) _ (c .if1 .taken)
+returns c = first-fault _ _ (c .before .before .first-bytes .ensures) (c .if1 .taken)
 
-add-means-at : tie.Need-add-means-at
-add-means-at c = omega (arith, asked _ (c .before .before .before .head .ensures) (c .before .if1 .left))
-
-slice-aggregate-means-at : tie.Need-slice-aggregate-means-at
-slice-aggregate-means-at c = search needs
-
-means-at-requires : tie.Need-means-at-requires
-means-at-requires c κs = asked _ (c .before .before .before .before .head .ensures) (c .before .before .if1 .left)
+means-counted-requires : tie.Need-means-counted-requires
+means-counted-requires c κs = first-long (c .before .before .before .before .args .file .now) (c .before .before .before .before .args .at) (c .before .before .first-bytes .ensures) (c .if1 .left)
 
 returns-2 : tie.Need-returns-2
-returns-2 c = means-fault _ (c .before .before .before .before .before .before .before .before .head .ensures) (c .before .before .before .before .before .before .if1 .left) (c .before .before .before .means-at .ensures) _ (c .if2 .taken)
+returns-2 c = head-fault _ _ (c .before .before .before .before .before .first-bytes .ensures) (c .before .before .before .if1 .left) (c .before .before .means-counted .ensures) (c .if2 .taken)
 
-shared-slice-read-weigh : tie.Need-shared-slice-read-weigh
-shared-slice-read-weigh c = omega (arith, known _ (c .before .before .before .before .before .before .before .before .before .head .ensures) (c .before .before .before .before .before .before .before .if1 .left) .long)
+add-means-at : tie.Need-add-means-at
+add-means-at c = omega (arith, means-asked _ _ (c .before .before .before .before .before .before .first-bytes .ensures) (c .before .before .before .before .if1 .left) (c .before .before .before .means-counted .ensures) (c .before .if2 .left) {means = c .before .before .before .before .before .before .before .before .args .means .now} (c .before .before .before .before .before .before .before .before .pre .1))
 
-add-weigh : tie.Need-add-weigh
-add-weigh c = search needs
-
-shared-slice-read-weigh-2 : tie.Need-shared-slice-read-weigh-2
-shared-slice-read-weigh-2 c = omega (arith, known _ (c .before .before .before .before .before .before .before .before .before .before .head .ensures) (c .before .before .before .before .before .before .before .before .if1 .left) .long)
-
-slice-aggregate-weigh : tie.Need-slice-aggregate-weigh
-slice-aggregate-weigh c = search needs
-
-weigh-requires : tie.Need-weigh-requires
-weigh-requires c κs =
-    rw (c .before .before .before .before .before .before .before .before .before .before .before .before .before .before .before .pre .0)
-    (weighable _ (c .before .before .before .before .before .before .before .before .before .before .before .before .head .ensures) (c .before .before .before .before .before .before .before .before .before .before .if1 .left) (c .before .before .before .before .before .before .before .means-at .ensures) (c .before .before .before .before .if2 .left) (c .before .before .before .before .before .before .before .means-at .kept .1 .1 .1 .0) (c .before .before .before .before .before .before .before .before .before .before .before .before .before .before .before .pre .1))
+means-at-requires : tie.Need-means-at-requires
+means-at-requires c κs = means-asked _ _ (c .before .before .before .before .before .before .before .first-bytes .ensures) (c .before .before .before .before .before .if1 .left) (c .before .before .before .before .means-counted .ensures) (c .before .before .if2 .left) (c .before .before .before .before .before .before .before .before .before .pre .1)
 
 same-length : tie.Need-same-length
 same-length c = search needs
 
 returns-3 : tie.Need-returns-3
-returns-3 c =
-    spans _ (c .before .before .before .before .before .before .before .before .before .before .before .before .before .before .before .head .ensures) (c .before .before .before .before .before .before .before .before .before .before .before .before .before .if1 .left) (c .before .before .before .before .before .before .before .before .before .before .means-at .ensures) (c .before .before .before .before .before .before .before .if2 .left)
-    (rw (c .before .before .before .before .before .before .before .before .before .before .before .before .before .before .before .before .before .before .pre .0) at (c .before .before .weigh .ensures))
+returns-3 c = span-met _ _ (c .before .before .before .before .before .before .before .before .before .first-bytes .ensures) (c .before .before .before .before .before .before .before .if1 .left) (c .before .before .before .before .before .before .means-counted .ensures) (c .before .before .before .before .if2 .left) (c .before .means-at .ensures)
 
 pub span-at-spec : {M : Type 1} → statement M
 span-at-spec =
     tie.close
     (tie.spec
-    head-requires
+    first-bytes-requires
     returns
-    add-means-at
-    slice-aggregate-means-at
-    means-at-requires
+    means-counted-requires
     returns-2
-    shared-slice-read-weigh
-    add-weigh
-    shared-slice-read-weigh-2
-    slice-aggregate-weigh
-    weigh-requires
+    add-means-at
+    means-at-requires
     same-length
     returns-3)
