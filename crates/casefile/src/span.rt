@@ -35,7 +35,7 @@ fn first_bytes(file: &[u8], at: usize) -> SectionEnd
     passed(0, at + 2)
 }
 
-// The count of means, which is still to be passed.
+// The count of means. The reader stays there, where the section starts.
 fn means_counted(file: &[u8], at: usize) -> SectionEnd
     requires { ⌜ at ≤ length (now file) ⌝ }
     ensures { λ r. ⌜ Reached (meansCountFault (now (file .entry)) at) (number16 (now (file .entry)) at - 3) at r ⌝ }
