@@ -26,14 +26,14 @@ use Rattle.casefile.proofs.Marked.{full-cuts}
 use Rattle.casefile.proofs.Weighing.{GoodSpan, FirstBytes, first-bytes-none, means-count-none, means-in}
 
 -- a section whose count is there, or is not, after what was read before it
-module _ (s : List ℕ) (at : ℕ) (item : ℕ → Fault) {n next : ℕ} (so-far : SectionEnd) {p : SectionEnd} (z : so-far .number ≡ 0) where
-  pub section-early : p ≡ record { number = 13; place = length s; days = 0 } → length s < at + 2 → Reached (toldBy so-far before sectionFault s at item) n next p
-  section-early e l = joins (sectionFault s at item) so-far z (stops (lit< tt) e (simp (lt-ltb (length s) (at + 2) l)))
+module _ (s : List ℕ) (at : ℕ) (item : ℕ → Fault) {n next number : ℕ} {p : SectionEnd} (z : number ≡ 0) where
+  pub section-early : p ≡ record { number = 13; place = length s; days = 0 } → length s < at + 2 → Reached (told number at before sectionFault s at item) n next p
+  section-early e l = joins (sectionFault s at item) number at z (stops (lit< tt) e (simp (lt-ltb (length s) (at + 2) l)))
 
-  pub section-read : at + 2 ≤ length s → Reached (itemsFault s at item) n next p → Reached (toldBy so-far before sectionFault s at item) n next p
-  section-read l r = joins (sectionFault s at item) so-far z (rw (le-ltb (length s) (at + 2) l) r)
+  pub section-read : at + 2 ≤ length s → Reached (itemsFault s at item) n next p → Reached (told number at before sectionFault s at item) n next p
+  section-read l r = joins (sectionFault s at item) number at z (rw (le-ltb (length s) (at + 2) l) r)
 
-pub items-asked : {s : List ℕ} {at count : ℕ} {so-far : SectionEnd} → Goes s at so-far → so-far .number ≡ 0 → at + 2 ≤ length s → (count ≡ number16 s at) × (count < 65536) → ItemsAsked s at count (so-far .days)
+pub items-asked : {s : List ℕ} {at count number n : ℕ} → Goes s at number n → number ≡ 0 → at + 2 ≤ length s → (count ≡ number16 s at) × (count < 65536) → ItemsAsked s at count n
 items-asked g z l c = record { counted = c .0; few = c .1; near = l; span = g .span z }
 
 -- items without a fault end within the file
@@ -106,7 +106,7 @@ module _ (s : List ℕ) (at : ℕ) {first : SectionEnd} (f : Reached (firstBytes
 
     module _ {head : SectionEnd} (m : Reached (meansCountFault s (first .place)) (number16 s (first .place) - 3) (first .place) head) where
       counted : Reached (headFaultAt s at) (number16 s (at + 2) - 3) (at + 2) head
-      counted = after count-fault f (joins count-fault first z (subst (λ (x : ℕ). Reached (meansCountFault s x) (number16 s x - 3) x head) (f .stands z) m))
+      counted = after count-fault f (joins count-fault (first .number) (first .place) z (subst (λ (x : ℕ). Reached (meansCountFault s x) (number16 s x - 3) x head) (f .stands z) m))
 
       pub head-fault : {means : List ℤ} → (head .number ≡ 0 → ⊥) → SpanMet s at head means
       head-fault h = record { reached = after means-fault counted (stays head means-fault h); read = λ y. absurd (h y) }
@@ -122,10 +122,10 @@ module _ (s : List ℕ) (at : ℕ) {first : SectionEnd} (f : Reached (firstBytes
         pub span-met : {p : SectionEnd} {means : List ℤ} → MeansMet s (head .place) (itemsFault s (head .place) (meanFaultAt s (head .place))) p means → SpanMet s at p means
         span-met {p} {means} t =
             let u = subst (λ (x : ℕ). MeansMet s x (itemsFault s x (meanFaultAt s x)) p means) (counted .stands y) t in
-            record { reached = after means-fault counted (joins means-fault head y (u .reached)); read = u .read }
+            record { reached = after means-fault counted (joins means-fault (head .number) (head .place) y (u .reached)); read = u .read }
 
 module _ {s : List ℕ} {p : SectionEnd} {means : List ℤ} (a : SpanMet s 0 p means) where
-  pub readings-go : Goes s (p .place) p
+  pub readings-go : Goes s (p .place) (p .number) (p .days)
   readings-go =
       record {
         near = λ z.
@@ -135,8 +135,8 @@ module _ {s : List ℕ} {p : SectionEnd} {means : List ℤ} (a : SpanMet s 0 p m
         span = λ z. rw (a .reached .days-are z) (span-of s 0 (clean (a .reached) z) .span .most);
       }
 
-  module _ {marks counts read counts-after : List ℕ} {q : SectionEnd} (b : ReadingsAfter s (p .place) p marks counts q read counts-after) where
-    pub cuts-go : Goes s (q .place) q
+  module _ {marks counts read counts-after : List ℕ} {q : SectionEnd} (b : ReadingsAfter s (p .place) (p .number) (p .days) marks counts q read counts-after) where
+    pub cuts-go : Goes s (q .place) (q .number) (q .days)
     cuts-go =
         record {
           near = λ z.
@@ -147,7 +147,7 @@ module _ {s : List ℕ} {p : SectionEnd} {means : List ℤ} (a : SpanMet s 0 p m
           span = λ z. rw (b .reached .days-are z) (readings-go .span (no-earlier _ p (b .reached) z .0));
         }
 
-    module _ {cut : List ℕ} {r : SectionEnd} (c : CutsAfter s (q .place) q read r cut) where
+    module _ {cut : List ℕ} {r : SectionEnd} (c : CutsAfter s (q .place) (q .number) (q .days) read r cut) where
       after-readings : Reached (beforeCutsFault s) (daysOf s) (cutsOffset s) q
       after-readings = chain (readingsFaultAt s) (endAt 10 s) (a .reached) (b .reached)
 

@@ -126,8 +126,13 @@ told-first (suc number) place g n = refl
 pub stays : {n next : ℕ} (p : SectionEnd) (g : Fault) → (p .number ≡ 0 → ⊥) → Reached (toldBy p before g) n next p
 stays p g h = record { tells = told-first (p .number) (p .place) g h; days-are = λ z. absurd (h z); stands = λ z. absurd (h z) }
 
-pub joins : (g : Fault) {n next : ℕ} (p : SectionEnd) {q : SectionEnd} → p .number ≡ 0 → Reached g n next q → Reached (toldBy p before g) n next q
-joins g p z t = record { tells = t .tells ∙ ap (λ (n : ℕ). told n (p .place) before g) (sym z); days-are = t .days-are; stands = t .stands }
+pub told-again : {n next number place : ℕ} {p : SectionEnd} (g : Fault) → (number ≡ 0 → ⊥) → p ≡ record { number = number; place = place; days = 0 } → Reached (told number place before g) n next p
+told-again {number = number} {place = place} g h e =
+    let l : 0 < number = omega (arith, h) in
+    stops l e (told-first number place g h)
+
+pub joins : (g : Fault) {n next : ℕ} (number place : ℕ) {q : SectionEnd} → number ≡ 0 → Reached g n next q → Reached (told number place before g) n next q
+joins g number place z t = record { tells = t .tells ∙ ap (λ (n : ℕ). told n place before g) (sym z); days-are = t .days-are; stands = t .stands }
 
 -- .. and the fault that the first tells is its own
 pub after : {f : Fault} {m n at next : ℕ} {p q : SectionEnd} (g : Fault) → Reached f m at p → Reached (toldBy p before g) n next q → Reached (f before g) n next q

@@ -32,10 +32,10 @@ pub record Reached (f : Fault) (n next : ℕ) (p : SectionEnd) : Type 0 where
   pub days-are : p .number ≡ 0 → p .days ≡ n
   pub stands : p .number ≡ 0 → p .place ≡ next
 
--- a section is read for a span of at most 1,096 days, from within the file, where nothing before it has a fault
-pub record Goes (s : List ℕ) (at : ℕ) (so-far : SectionEnd) : Type 0 where
-  pub near : so-far .number ≡ 0 → at ≤ length s
-  pub span : so-far .number ≡ 0 → so-far .days ≤ spanMost
+-- a reader that stands at an offset: where `number` is 0 it has met no fault, and reads on for a span of at most 1,096 days; else it stands at that fault
+pub record Goes (s : List ℕ) (at number n : ℕ) : Type 0 where
+  pub near : number ≡ 0 → at ≤ length s
+  pub span : number ≡ 0 → n ≤ spanMost
 
 -- the means of the section, asked for a buffer that holds as many as a span can have
 pub record MeansAsked (s : List ℕ) (at count : ℕ) (means : List ℤ) : Type 0 where
@@ -114,12 +114,12 @@ pub record CutsMet (s : List ℕ) (at n : ℕ) (f : Fault) (marks : List ℕ) (p
   pub reached : Reached f n (endAt 2 s at) p
   pub puts : p .number ≡ 0 → (w c : List ℕ) → account w marks-after c ≡ cutsPut (account w marks c) s at (number16 s at)
 
--- each of the two sections after what was read before it
-abbrev pub ReadingsAfter : (s : List ℕ) (at : ℕ) (so-far : SectionEnd) (marks counts : List ℕ) (p : SectionEnd) (marks-after counts-after : List ℕ) → Type 0
-ReadingsAfter s at so-far = ReadingsMet s at (so-far .days) (toldBy so-far before readingsFaultAt s at (so-far .days))
+-- each of the two sections for such a reader
+abbrev pub ReadingsAfter : (s : List ℕ) (at number n : ℕ) (marks counts : List ℕ) (p : SectionEnd) (marks-after counts-after : List ℕ) → Type 0
+ReadingsAfter s at number n = ReadingsMet s at n (told number at before readingsFaultAt s at n)
 
-abbrev pub CutsAfter : (s : List ℕ) (at : ℕ) (so-far : SectionEnd) (marks : List ℕ) (p : SectionEnd) (marks-after : List ℕ) → Type 0
-CutsAfter s at so-far = CutsMet s at (so-far .days) (toldBy so-far before cutsFaultAt s at (so-far .days))
+abbrev pub CutsAfter : (s : List ℕ) (at number n : ℕ) (marks : List ℕ) (p : SectionEnd) (marks-after : List ℕ) → Type 0
+CutsAfter s at number n = CutsMet s at n (told number at before cutsFaultAt s at n)
 
 -- the sections of the layout, one after the other
 pub record SectionsMet (s marks counts : List ℕ) (p : SectionEnd) (means : List ℤ) (marks-after counts-after : List ℕ) : Type 0 where

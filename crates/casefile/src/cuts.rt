@@ -51,17 +51,23 @@ fn each_cut(file: &[u8], at: usize, count: usize, days: usize, marks: &mut [u8])
     passed(days, at + 2 + 2 * count)
 }
 
-// The cuts' section, where nothing before it has a fault.
-pub(crate) fn cuts_at(file: &[u8], at: usize, before: SectionEnd, marks: &mut [u8]) -> SectionEnd
-    requires { ⌜ Goes (now file) at before × (length (now marks) ≡ spanMost + 1) ⌝ }
-    ensures { λ r. ⌜ CutsAfter (now (file .entry)) at before (now (marks .entry)) r (now (marks .exit)) ⌝ }
+// The cuts' section, for a reader that has met no fault (number 0) or stands at one.
+pub(crate) fn cuts_at(
+    file: &[u8],
+    at: usize,
+    number: u8,
+    days: usize,
+    marks: &mut [u8],
+) -> SectionEnd
+    requires { ⌜ Goes (now file) at number days × (length (now marks) ≡ spanMost + 1) ⌝ }
+    ensures { λ r. ⌜ CutsAfter (now (file .entry)) at number days (now (marks .entry)) r (now (marks .exit)) ⌝ }
 {
-    if before.number != 0 {
-        return before;
+    if number != 0 {
+        return refused(number, at);
     }
     if file.len() < at + 2 {
         return refused(13, file.len());
     }
     let count = number16(file, at);
-    each_cut(file, at, count, before.days, marks)
+    each_cut(file, at, count, days, marks)
 }

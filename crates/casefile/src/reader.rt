@@ -38,21 +38,22 @@ fn span<'a>(r: Reader<'a>, means: &mut [i16]) -> SectionEnd
 
 fn readings<'a>(
     r: Reader<'a>,
-    before: SectionEnd,
+    number: u8,
+    days: usize,
     marks: &mut [u8],
     counts: &mut [u64],
 ) -> SectionEnd
-    requires { ⌜ Goes (now (r .file)) (r .at) before × Clear (spanMost + 1) (now marks) × (length (now counts) ≡ spanMost + 1) ⌝ }
-    ensures { λ p. ⌜ ReadingsAfter (now (r .entry .file)) (r .entry .at) before (now (marks .entry)) (now (counts .entry)) p (now (marks .exit)) (now (counts .exit)) ⌝ }
+    requires { ⌜ Goes (now (r .file)) (r .at) number days × Clear (spanMost + 1) (now marks) × (length (now counts) ≡ spanMost + 1) ⌝ }
+    ensures { λ p. ⌜ ReadingsAfter (now (r .entry .file)) (r .entry .at) number days (now (marks .entry)) (now (counts .entry)) p (now (marks .exit)) (now (counts .exit)) ⌝ }
 {
-    readings_at(r.file, r.at, before, marks, counts)
+    readings_at(r.file, r.at, number, days, marks, counts)
 }
 
-fn cuts<'a>(r: Reader<'a>, before: SectionEnd, marks: &mut [u8]) -> SectionEnd
-    requires { ⌜ Goes (now (r .file)) (r .at) before × (length (now marks) ≡ spanMost + 1) ⌝ }
-    ensures { λ p. ⌜ CutsAfter (now (r .entry .file)) (r .entry .at) before (now (marks .entry)) p (now (marks .exit)) ⌝ }
+fn cuts<'a>(r: Reader<'a>, number: u8, days: usize, marks: &mut [u8]) -> SectionEnd
+    requires { ⌜ Goes (now (r .file)) (r .at) number days × (length (now marks) ≡ spanMost + 1) ⌝ }
+    ensures { λ p. ⌜ CutsAfter (now (r .entry .file)) (r .entry .at) number days (now (marks .entry)) p (now (marks .exit)) ⌝ }
 {
-    cuts_at(r.file, r.at, before, marks)
+    cuts_at(r.file, r.at, number, days, marks)
 }
 
 // Front to back into cleared slices: plain parameters, so that callers see no reader.
@@ -68,7 +69,12 @@ pub(crate) fn fill(
     let start = new(file);
     let means_end = span(start, means);
     let after_means = moved(start, means_end.place);
-    let readings_end = readings(after_means, means_end, marks, counts);
+    let readings_end = readings(after_means, means_end.number, means_end.days, marks, counts);
     let after_readings = moved(after_means, readings_end.place);
-    cuts(after_readings, readings_end, marks)
+    cuts(
+        after_readings,
+        readings_end.number,
+        readings_end.days,
+        marks,
+    )
 }

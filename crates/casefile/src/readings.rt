@@ -113,23 +113,24 @@ fn each_reading(
     passed(days, at + 2 + 10 * count)
 }
 
-// The readings' section, where nothing before it has a fault.
+// The readings' section, for a reader that has met no fault (number 0) or stands at one.
 pub(crate) fn readings_at(
     file: &[u8],
     at: usize,
-    before: SectionEnd,
+    number: u8,
+    days: usize,
     marks: &mut [u8],
     counts: &mut [u64],
 ) -> SectionEnd
-    requires { ⌜ Goes (now file) at before × Clear (spanMost + 1) (now marks) × (length (now counts) ≡ spanMost + 1) ⌝ }
-    ensures { λ r. ⌜ ReadingsAfter (now (file .entry)) at before (now (marks .entry)) (now (counts .entry)) r (now (marks .exit)) (now (counts .exit)) ⌝ }
+    requires { ⌜ Goes (now file) at number days × Clear (spanMost + 1) (now marks) × (length (now counts) ≡ spanMost + 1) ⌝ }
+    ensures { λ r. ⌜ ReadingsAfter (now (file .entry)) at number days (now (marks .entry)) (now (counts .entry)) r (now (marks .exit)) (now (counts .exit)) ⌝ }
 {
-    if before.number != 0 {
-        return before;
+    if number != 0 {
+        return refused(number, at);
     }
     if file.len() < at + 2 {
         return refused(13, file.len());
     }
     let count = number16(file, at);
-    each_reading(file, at, count, before.days, marks, counts)
+    each_reading(file, at, count, days, marks, counts)
 }

@@ -22,14 +22,14 @@ returns-2 : tie.Need-returns-2
 returns-2 c =
     let a = c .before .before .before .before .before .before .args in
     let s = a .file .now in
-    joins (leftOver s (a .before .place)) (a .before) (c .before .before .before .if1 .left) (stops (lit< tt) (c .refused .ensures) (simp (lt-ltb (a .before .place) (length s) (omega arith))))
+    joins (leftOver s (a .before .place)) (a .before .number) (a .before .place) (c .before .before .before .if1 .left) (stops (lit< tt) (c .refused .ensures) (simp (lt-ltb (a .before .place) (length s) (omega arith))))
 
 returns-3 : tie.Need-returns-3
 returns-3 c =
     let a = c .before .before .before .before .before .args in
     let s = a .file .now in
     let z = c .before .before .if1 .left in
-    joins (leftOver s (a .before .place)) (a .before) z
+    joins (leftOver s (a .before .place)) (a .before .number) (a .before .place) z
     (record { tells = rw (z, le-ltb (a .before .place) (length s) (omega arith)) refl; days-are = λ _. refl; stands = λ _. refl })
 
 pub ended-spec : {M : Type 1} → statement M
