@@ -18,6 +18,7 @@
  *    1  the profile is above 9
  *    2  the weekday is above 6
  *    4  a mean or a temperature is outside -5,000 to 3,999
+ *   14  a byte of the calendar is above 7
  *    5  the account or the weights are unsound
  *    6  the boundary is above n
  *    7  that mark is already there, whatever its count
@@ -118,14 +119,17 @@ arvadush_outcome arvadush_day_weight(uint8_t profile, uint8_t weekday, int16_t t
 
 /* Writes the weight of each day of a span into out.
  * n is means_len - 3. The means are oldest first, and day k has its own mean at index k + 3. The weekday is that of day 0.
+ * The calendar has one byte for each day: 0 to 6 names the weekday that the day counts as, and 7 keeps its own.
  * The value is 0.
  * Refused, in this order:
- *   3  n is outside 1 to 1,096, or out is not n long
+ *   3  n is outside 1 to 1,096, or calendar or out is not n long
  *   1  the profile is above 9; out is then zero
  *   2  the weekday is above 6; out is then zero
  *   4  a mean is out of range (place: the index of the first such mean); out is then zero
+ *  14  a byte of the calendar is above 7 (place: the index of the first such byte); out is then zero
  */
-arvadush_outcome arvadush_weights(uint8_t profile, uint8_t weekday, const int16_t *means, size_t means_len, uint32_t *out, size_t out_len);
+arvadush_outcome arvadush_weights(uint8_t profile, uint8_t weekday, const int16_t *means, size_t means_len, const uint8_t *calendar,
+                                  size_t calendar_len, uint32_t *out, size_t out_len);
 
 /* ---- Account. Each call but arvadush_statement returns the table's number. n is weights_len. */
 
@@ -209,6 +213,7 @@ arvadush_outcome arvadush_daily_amount(uint64_t value, uint32_t weight);
 /* ---- Case file and text. */
 
 /* Reads a case file into weights, marks and counts, and zeros past the account. The value is n.
+ * Each day of a case file counts as its own weekday.
  * The lengths of the slices are checked first. This refusal leaves the slices as they were:
  *   3  the slices are not 1,096, 1,097 and 1,097 long (place: 0)
  * Then the file is read from front to back. After any of the refusals below every slice is zero.

@@ -9,6 +9,7 @@
 static const char HELP[] =
     "weights W W ..               opens an account with these weights, one for each day\n"
     "days PROFILE WEEKDAY M M ..  opens an account with the weights that these daily means give\n"
+    "days .. M M .. as B B ..     does the same, with a byte B for each day\n"
     "reading K COUNT              sets a reading of COUNT Wh at boundary K\n"
     "withdraw K                   removes the reading at boundary K\n"
     "cut K                        sets a cut at boundary K\n"
@@ -17,6 +18,7 @@ static const char HELP[] =
     "help                         prints this text\n"
     "Profiles are 0 to 9, and weekdays are 0 (Monday) to 6.\n"
     "Means are hundredths of a degree C, oldest first. The first three are of the days before day 0.\n"
+    "A byte is 0 to 6, the weekday that the day counts as, or 7, its own. Without bytes each day keeps its own.\n"
     "The answer is done, refused NUMBER PLACE or the statement. A line that is no call gets unknown LINE.\n"
     "Empty lines and lines that begin with # get no answer.\n";
 
@@ -177,22 +179,44 @@ static bool call_weights(text line)
     return true;
 }
 
+/* Reads the words that are left as the bytes of a calendar; false if one is no byte. */
+static bool read_calendar(text line, uint8_t *calendar, size_t *length)
+{
+    *length = 0;
+    while (!no_word(line)) {
+        uint64_t byte;
+        if (!number(next_word(&line), UINT8_MAX, &byte))
+            return false;
+        if (*length < WEIGHTS)
+            calendar[(*length)++] = (uint8_t)byte;
+    }
+    return true;
+}
+
 static bool call_days(text line)
 {
     static int16_t means[MEANS];
+    static uint8_t calendar[WEIGHTS];
     size_t length = 0;
     uint64_t profile, weekday;
     if (!number(next_word(&line), UINT8_MAX, &profile) || !number(next_word(&line), UINT8_MAX, &weekday))
         return false;
-    while (!no_word(line)) {
+    text word = next_word(&line);
+    for (; !is_empty(word) && !is(word, "as"); word = next_word(&line)) {
         int16_t value;
-        if (!mean(next_word(&line), &value))
+        if (!mean(word, &value))
             return false;
         if (length < MEANS)
             means[length++] = value;
     }
     size_t n = length < 3 ? 0 : length - 3;
-    arvadush_outcome outcome = arvadush_weights((uint8_t)profile, (uint8_t)weekday, means, length, spare->weights, n);
+    /* Without bytes each day keeps its own weekday. */
+    size_t calendar_len = n;
+    memset(calendar, 7, n);
+    if (is(word, "as") && !read_calendar(line, calendar, &calendar_len))
+        return false;
+    arvadush_outcome outcome =
+        arvadush_weights((uint8_t)profile, (uint8_t)weekday, means, length, calendar, calendar_len, spare->weights, n);
     if (outcome.number == 0)
         open_spare(n);
     else

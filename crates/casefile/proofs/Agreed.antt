@@ -15,8 +15,9 @@ use Rattle.common.specs.Below.{somewhere}
 use Rattle.account.specs.Account.{energyMost}
 use Rattle.weights.specs.Means.{someOut}
 use Rattle.weights.specs.Weights.{Ruling, unfit}
+use Rattle.weights.proofs.Calendar.{own-named}
 use Rattle.casefile.specs.Bytes.{number16}
-use Rattle.casefile.specs.Case.{itemAt, meanAt, boundaryAt, readingCountAt, profileByte, weekdayByte, meansLength, meanOffset, meansOf, daysOf, readingsOffset, cutsOffset, endOf}
+use Rattle.casefile.specs.Case.{itemAt, meanAt, boundaryAt, readingCountAt, profileByte, weekdayByte, meansLength, meanOffset, meansOf, daysOf, calendarOf, readingsOffset, cutsOffset, endOf}
 use Rattle.casefile.specs.Faults.{Fault, noFault, refused, _before_, fault, failsToRise, firstBytesFault, boundaryFault, readingFaultAt, sectionFault, meanFault, itemsFault, headFault, readingsFault, cutsFault, spanFault, beforeCutsFault, sectionsFault, faultOf}
 use Rattle.casefile.specs.Reader.{faultNumber}
 use Rattle.casefile.specs.Agrees.{weighing, afterDay, FileAgrees, ItemTaken}
@@ -55,15 +56,15 @@ head-agrees s = go (decLt (length s) 1) (decLt (length s) 2)
         (number-before (ltb (length s) 4) 13 (length s) _ ∙ ap (row (ltb (length s) 4) 13) (number-of (badSpan (daysOf s)) 3 2)))
 
 -- row 3 of the weights call
-unfit-is : (s : List ℕ) → unfit (meansOf s) (replicate (daysOf s) 0) ≡ badSpan (daysOf s)
+unfit-is : (s : List ℕ) → unfit (meansOf s) (calendarOf s) (replicate (daysOf s) 0) ≡ badSpan (daysOf s)
 unfit-is s =
     let n = means-length s 2 (meansLength s) in
-    rw (n, length-replicate, eq-eqb (daysOf s) (daysOf s) refl) (or-false _)
+    rw (n, length-replicate {A = ℕ} (daysOf s) 0, length-replicate {A = ℕ} (daysOf s) 7, eq-eqb (daysOf s) (daysOf s) refl) (or-false _ ∙ or-false _)
 
 span-agrees : (s : List ℕ) → readingsOffset s ≤ length s → faultNumber (spanFault s) ≡ afterDay s (weighing s .number)
 unfolding inRange
 span-agrees s l =
-    rw (le-ltb (length s) 1 (omega arith), le-ltb (length s) 2 (omega arith), le-ltb (length s) 4 (omega arith), means-out s 2 (meansLength s) l, unfit-is s)
+    rw (le-ltb (length s) 1 (omega arith), le-ltb (length s) 2 (omega arith), le-ltb (length s) 4 (omega arith), means-out s 2 (meansLength s) l, unfit-is s, own-named (daysOf s))
     (go (leb profileCount (profileByte s)) (ltb 6 (weekdayByte s)) (badSpan (daysOf s)) (someOut (meansOf s)) _ _ _ _ _)
   where
     go : (profile weekday span out : Bool) (at index : ℕ) (x y z : List ℕ) →

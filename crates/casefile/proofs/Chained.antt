@@ -1,6 +1,6 @@
 -- The sections one after the other (Case file, If a call declines): each is read where those before it have no fault. Assumes nothing.
 use Prim.Native.Nat.{ℕ, zero, suc, _+_, _-_, _≤_, _<_}
-use mathlib.Core.Path.{_≡_, refl, sym, _∙_, ap, subst, subst⁻¹}
+use mathlib.Core.Path.{_≡_, refl, sym, _∙_, ap, ap₂, subst, subst⁻¹}
 use mathlib.Core.List.{List, _++_}
 use native.Mathlib.Omega.{arith}
 use native.Mathlib.Nat.{mul-suc}
@@ -227,12 +227,12 @@ module _ {s : List ℕ} {lent : Account} {marks counts : List ℕ} {means : List
           clear = l .weights;
         }
 
-    pub file-filled : {weights : List ℕ} → weights ≡ filled spanMost (weightsOf (byte s 0) (byte s 1) (take (q .days + 3) means)) → FillMet s q (account weights marks counts)
+    pub file-filled : {weights : List ℕ} → weights ≡ filled spanMost (weightsOf (byte s 0) (byte s 1) (take (q .days + 3) means) (replicate (q .days) 7)) → FillMet s q (account weights marks counts)
     file-filled {weights} w =
         let n = daysOf s in
         let fits : n + 1 ≤ spanMost + 1 = omega (arith, span-is .span .most) in
         let start : account weights (lent .marks) (lent .counts) ≡ full (emptyCase s) = λ i.
-        account ((w ∙ ap (λ (xs : List ℤ). filled spanMost (weightsOf (byte s 0) (byte s 1) xs)) first-means) i) (clear-filled (n + 1) (l .marks) fits i) (clear-filled (n + 1) (l .counts) fits i) in
+        account ((w ∙ ap₂ (λ (xs : List ℤ) (n : ℕ). filled spanMost (weightsOf (byte s 0) (byte s 1) xs (replicate n 7))) first-means days-are) i) (clear-filled (n + 1) (l .marks) fits i) (clear-filled (n + 1) (l .counts) fits i) in
         let k = readings-kept (emptyCase s) s (readingsOffset s) (readingsLength s) in
         record {
           reached = file-ended a e;

@@ -26,7 +26,7 @@ use Rattle.account.specs.Slices.{Checked}
 use Rattle.account.proofs.Rows.{rows-through}
 use Rattle.account.proofs.Keeps.{Holds, open-keeps, reading-keeps, cut-keeps}
 use Rattle.account.proofs.Shows.{zeros}
-use Rattle.casefile.specs.Case.{itemAt, boundaryAt, readingCountAt, readingsPut, cutsPut, profileByte, weekdayByte, meansLength, meansOf, daysOf, readingsOffset, readingsLength, readingOffset, readingBoundary, readingCount, cutsOffset, cutsLength, cutOffset, cutBoundary, emptyCase, withReadings, withCuts, accountOf}
+use Rattle.casefile.specs.Case.{itemAt, boundaryAt, readingCountAt, readingsPut, cutsPut, profileByte, weekdayByte, meansLength, meansOf, daysOf, calendarOf, readingsOffset, readingsLength, readingOffset, readingBoundary, readingCount, cutsOffset, cutsLength, cutOffset, cutBoundary, emptyCase, withReadings, withCuts, accountOf}
 use Rattle.casefile.specs.Faults.{noFault, firstFault, failsToRise, cutFaultAt, readingFaultAt, readingFault, cutFault, spanFault}
 use Rattle.casefile.specs.Reader.{faultNumber, CaseSound, CaseTaken}
 use Rattle.casefile.proofs.Faults.{number-of, number-before, none-both, none-before, first-few}
@@ -122,18 +122,18 @@ module _ {a : Account} {s : List ℕ} {at n : ℕ} (long : days a ≡ n) where
   cut-agrees i p whole rising = cut-number i p whole rising ∙ sym (rows-through (cutsPut a s at i) _ (p .checked))
 
 -- the account of the layout: over good weights, and for n days
-span-weights : (s : List ℕ) → spanFault s ≡ noFault → goodWeights (weightsOf (profileByte s) (weekdayByte s) (meansOf s)) ≡ true
+span-weights : (s : List ℕ) → spanFault s ≡ noFault → goodWeights (weightsOf (profileByte s) (weekdayByte s) (meansOf s) (calendarOf s)) ≡ true
 unfolding goodWeights
 span-weights s e =
     let c = span-of s 0 e in
     let ready : Ready (profileByte s) (weekdayByte s) (meansOf s) =
     record { profile-known = omega (arith, c .first .profile-known); weekday-known = omega (arith, c .first .weekday-known); means-in-range = means-in s 2 (meansLength s) (c .means) } in
     every-is _ _ λ d l.
-    let w = weights-bounded (profileByte s) (weekdayByte s) (meansOf s) ready d (omega (arith, weights-length (profileByte s) (weekdayByte s) (meansOf s))) in
-    simp (le-leb weightLeast (getD (weightsOf (profileByte s) (weekdayByte s) (meansOf s)) d 0) (w .0), le-leb (getD (weightsOf (profileByte s) (weekdayByte s) (meansOf s)) d 0) weightMost (w .1))
+    let w = weights-bounded (profileByte s) (weekdayByte s) (meansOf s) (calendarOf s) ready d (omega (arith, weights-length (profileByte s) (weekdayByte s) (meansOf s) (calendarOf s))) in
+    simp (le-leb weightLeast (getD (weightsOf (profileByte s) (weekdayByte s) (meansOf s) (calendarOf s)) d 0) (w .0), le-leb (getD (weightsOf (profileByte s) (weekdayByte s) (meansOf s) (calendarOf s)) d 0) weightMost (w .1))
 
 empty-days : (s : List ℕ) → days (emptyCase s) ≡ daysOf s
-empty-days s = weights-length (profileByte s) (weekdayByte s) (meansOf s) ∙ ap (λ (n : ℕ). n - 3) (means-length s 2 (meansLength s))
+empty-days s = weights-length (profileByte s) (weekdayByte s) (meansOf s) (calendarOf s) ∙ ap (λ (n : ℕ). n - 3) (means-length s 2 (meansLength s))
 
 -- as long as the file's days ask, with all readings and with all cuts
 pub record CaseLong (s : List ℕ) (a : Account) : Type 0 where

@@ -7,8 +7,8 @@ use native.Mathlib.Omega.{arith}
 use borrow.Author.Tests.{ltb-true, ltb-false, leb-true, leb-false, lt-ltb, le-ltb, le-leb, lt-leb, eq-eqb, not-false}
 use lib.Dec.{ltb, leb, leb·suc-suc}
 use lib.IntN.{ℤ}
-use lib.ListN.{length, take, drop, replicate, length-drop, length-replicate, getD-replicate}
-use lib.Seq.{ext-getD, getD-drop, length-take-le}
+use lib.ListN.{length, take, drop, replicate, length-drop, length-replicate, getD-replicate, replicate-append-replicate}
+use lib.Seq.{ext-getD, getD-drop, length-take-le, take-at}
 use Rattle.profile.specs.Limits.{inRange, spanMost, profileCount, badSpan}
 use Rattle.common.proofs.Below.{both}
 use Rattle.common.specs.Rows.{filled}
@@ -16,6 +16,7 @@ use Rattle.weights.specs.Means.{firstOut, someOut}
 use Rattle.common.specs.Lists.{listOf}
 use Rattle.weights.specs.Weights.{weightsOf, WeightsMet}
 use Rattle.common.proofs.Lists.{listOf-length}
+use Rattle.weights.proofs.Calendar.{own-named}
 use Rattle.weights.proofs.Span.{weights-length}
 use Rattle.casefile.specs.Bytes.{byte, number16}
 use Rattle.casefile.specs.Case.{itemAt, meanAt, meansAt}
@@ -99,15 +100,24 @@ drop-zeros k n = ext-getD 0 (drop k (replicate n 0)) (replicate (n - k) 0) (simp
     let h : i < n - k = rw (length-drop, length-replicate) at l in
     rw (getD-drop, getD-replicate {A = ℕ} n (k + i) 0 0 (omega arith), getD-replicate {A = ℕ} (n - k) i 0 0 h)
 
+first-sevens : (k n : ℕ) → k ≤ n → take k (replicate {A = ℕ} n 7) ≡ replicate k 7
+first-sevens k n h =
+    let all : n ≡ k + (n - k) = omega arith in
+    ap (take k) (ap (λ (m : ℕ). replicate m 7) all ∙ sym (replicate-append-replicate k (n - k) 7))
+    ∙ take-at (replicate k 7) (replicate (n - k) 7) k (length-replicate k 7)
+
 -- the weights call does what it is asked, and leaves the rest zero
-pub weighs : {profile weekday days : ℕ} {means meansAfter : List ℤ} {lent after : List ℕ} {answered placed : ℕ} → Weighable profile weekday means days lent
-    → WeightsMet profile weekday (take (days + 3) means) (take days lent) answered placed after meansAfter → after ++ drop days lent ≡ filled spanMost (weightsOf profile weekday (take (days + 3) means))
+pub weighs : {profile weekday days : ℕ} {means meansAfter : List ℤ} {lent after calendarAfter : List ℕ} {answered placed : ℕ} → Weighable profile weekday means days lent
+    → WeightsMet profile weekday (take (days + 3) means) (take days (replicate spanMost 7)) (take days lent) answered placed after meansAfter calendarAfter
+    → after ++ drop days lent ≡ filled spanMost (weightsOf profile weekday (take (days + 3) means) (replicate days 7))
 weighs {profile} {weekday} {days} {means} {lent} {after} w m =
     let enough : length (take (days + 3) means) ≡ days + 3 = length-take-le (days + 3) means (w .enough) in
     let room : length (take days lent) ≡ days = length-take-le days lent (omega (arith, w .clear .long)) in
     let n = length (take (days + 3) means) - 3 in
-    let full : after ≡ weightsOf profile weekday (take (days + 3) means) =
-    m .writes ∙ simp (le-leb 1 n (omega arith), le-leb n spanMost (omega arith), eq-eqb (length (take days lent)) n (omega arith), lt-leb profileCount profile (omega arith), le-ltb 6 weekday (omega arith), w .means-in-range) in
+    let own = first-sevens days spanMost (w .most) in
+    let listed = length-replicate {A = ℕ} days 7 in
+    let full : after ≡ weightsOf profile weekday (take (days + 3) means) (replicate days 7) =
+    rw own at (m .writes) ∙ simp (le-leb 1 n (omega arith), le-leb n spanMost (omega arith), eq-eqb (length (take days lent)) n (omega arith), eq-eqb (length (replicate {A = ℕ} days 7)) n (omega arith), lt-leb profileCount profile (omega arith), le-ltb 6 weekday (omega arith), w .means-in-range, own-named days) in
     let rest : drop days lent ≡ replicate (spanMost - days) 0 = ap (drop days) (w .clear .all-zero) ∙ drop-zeros days (length lent) ∙ ap (λ (n : ℕ). replicate (n - days) 0) (w .clear .long) in
-    let long : length (weightsOf profile weekday (take (days + 3) means)) ≡ days = weights-length profile weekday (take (days + 3) means) ∙ omega arith in
+    let long : length (weightsOf profile weekday (take (days + 3) means) (replicate days 7)) ≡ days = weights-length profile weekday (take (days + 3) means) (replicate days 7) ∙ omega arith in
     rw (full, rest, long) refl

@@ -14,13 +14,13 @@ use Rattle.profile.specs.Answers.{weightNumber}
 use Rattle.weights.specs.Means.{firstOut, someOut}
 use Rattle.weights.specs.Weights.{Ruling, ruling}
 use Rattle.account.specs.Refusals.{readingNumber, cutNumber}
-use Rattle.casefile.specs.Case.{profileByte, weekdayByte, meanOffset, firstMeans, meansOf, daysOf, readingsOffset, readingOffset, readingBoundary, readingCount, cutOffset, cutBoundary, withReadings, withCuts}
+use Rattle.casefile.specs.Case.{profileByte, weekdayByte, meanOffset, firstMeans, meansOf, daysOf, calendarOf, readingsOffset, readingOffset, readingBoundary, readingCount, cutOffset, cutBoundary, withReadings, withCuts}
 use Rattle.casefile.specs.Faults.{noFault, fault, firstFault, failsToRise, headFault, meanFault, readingFault, cutFault, spanFault, beforeCutsFault}
 use Rattle.casefile.specs.Reader.{faultNumber}
 
--- the weights call over profile, weekday and means
+-- the weights call over profile, weekday, means and 7 throughout
 abbrev pub weighing : List ℕ → Ruling
-weighing s = ruling (profileByte s) (weekdayByte s) (meansOf s) (replicate (daysOf s) 0)
+weighing s = ruling (profileByte s) (weekdayByte s) (meansOf s) (calendarOf s) (replicate (daysOf s) 0)
 
 -- rows 1 and 2, as the day weight call has them for a mean in range
 abbrev pub dayNumber : List ℕ → ℕ

@@ -63,6 +63,10 @@ meansOf s = firstMeans s (meansLength s)
 abbrev pub daysOf : List ℕ → ℕ
 daysOf s = meansLength s - 3
 
+-- K1: "All callers of the weights pass the list on, and case files of today's layout mean 7 throughout."
+abbrev pub calendarOf : List ℕ → List ℕ
+calendarOf s = replicate (daysOf s) 7
+
 abbrev pub readingsOffset : List ℕ → ℕ
 readingsOffset s = endAt 2 s 2
 
@@ -97,7 +101,7 @@ endOf s = endAt 2 s (cutsOffset s)
 -- the account over the means' weights: nothing marked, then the first i readings, then the first i cuts put in
 abbrev pub emptyCase : List ℕ → Account
 emptyCase s =
-    account (weightsOf (profileByte s) (weekdayByte s) (meansOf s)) (replicate (daysOf s + 1) 0) (replicate (daysOf s + 1) 0)
+    account (weightsOf (profileByte s) (weekdayByte s) (meansOf s) (calendarOf s)) (replicate (daysOf s + 1) 0) (replicate (daysOf s + 1) 0)
 
 abbrev pub withReadings : List ℕ → ℕ → Account
 withReadings s = readingsPut (emptyCase s) s (readingsOffset s)

@@ -7,7 +7,7 @@ use crate::sections::refused;
 use profile::Profile;
 ghost use mathlib.Core.Path.{_≡_};
 ghost use Prim.Native.Nat.{_+_, _-_, _≤_};
-ghost use lib.ListN.{length, take};
+ghost use lib.ListN.{length, take, replicate};
 ghost use Rattle.profile.specs.Limits.{spanMost};
 ghost use Rattle.weights.specs.Weights.{weightsOf};
 ghost use Rattle.common.specs.Rows.{filled};
@@ -90,10 +90,17 @@ pub(crate) fn span_at(file: &[u8], at: usize, means: &mut [i16]) -> SectionEnd
     means_at(file, head.place, head.days + 3, means)
 }
 
-// The weights of a span, from the first means of the buffer into the first of the lent weights.
+// The weights of a span whose days count as their own weekdays, from the first means of the buffer into the first of the lent weights.
 pub(crate) fn weigh(profile: u8, weekday: u8, means: &[i16], days: usize, weights: &mut [u32])
     requires { ⌜ Weighable profile weekday (now means) days (now weights) ⌝ }
-    ensures { λ r. ⌜ now (weights .exit) ≡ filled spanMost (weightsOf profile weekday (take (days + 3) (now (means .entry)))) ⌝ }
+    ensures { λ r. ⌜ now (weights .exit) ≡ filled spanMost (weightsOf profile weekday (take (days + 3) (now (means .entry))) (replicate days 7)) ⌝ }
 {
-    weights::weights(profile, weekday, &means[..days + 3], &mut weights[..days]);
+    let own = [7u8; Profile::SPAN_MOST];
+    weights::weights(
+        profile,
+        weekday,
+        &means[..days + 3],
+        &own[..days],
+        &mut weights[..days],
+    );
 }

@@ -114,17 +114,18 @@ pub extern "C" fn arvadush_day_weight(profile: u8, weekday: u8, t: i16) -> Outco
     returned::weight(profile::day_weight(profile, weekday, t))
 }
 
-// The weight of each day of a span, from its means, oldest first, and the weekday of day 0.
+// The weight of each day of a span, from its means, oldest first, the weekday of day 0, and which weekday each day counts as (7: its own).
 #[no_mangle]
 pub extern "C" fn arvadush_weights(
     profile: u8,
     weekday: u8,
     means: &[i16],
+    calendar: &[u8],
     out: &mut [u32],
 ) -> Outcome
-    ensures { λ r. ⌜ WeightsMet profile weekday (now (means .entry)) (now (out .entry)) (r .number) (r .place) (now (out .exit)) (now (means .exit)) × (r .value ≡ 0) ⌝ }
+    ensures { λ r. ⌜ WeightsMet profile weekday (now (means .entry)) (now (calendar .entry)) (now (out .entry)) (r .number) (r .place) (now (out .exit)) (now (means .exit)) (now (calendar .exit)) × (r .value ≡ 0) ⌝ }
 {
-    returned::weights(weights::weights(profile, weekday, means, out))
+    returned::weights(weights::weights(profile, weekday, means, calendar, out))
 }
 
 // Clears marks and counts, whatever they held.

@@ -103,6 +103,7 @@ pub(crate) fn weights(answer: WeightsAnswer) -> Outcome
         WeightsAnswer::NoProfile => outcome(1, 0, 0),
         WeightsAnswer::NoWeekday => outcome(2, 0, 0),
         WeightsAnswer::OutOfRange(k) => outcome(4, k, 0),
+        WeightsAnswer::NoDay(k) => outcome(14, k, 0),
     }
 }
 

@@ -1,4 +1,4 @@
-// Prints outside numbers through the exported calls, to be compared with the stored output (Starred cases, "By program").
+// Prints outside numbers through the exported calls, to be compared with the stored output (Starred cases, "By program", K1).
 use customer::CustomerAnswer;
 use libc::STDOUT_FILENO;
 use profile::Profile;
@@ -255,15 +255,24 @@ fn table() {
     end_line();
 }
 
-// The weights of the paper's example: profile 0 from a Monday, six means of 10.00 degrees.
-fn example() {
+// The weights of three days, from six means of 10.00 degrees.
+fn three_days(label: &[u8], profile: u8, weekday: u8, calendar: &[u8]) {
     let means = [1000i16; 6];
     let mut out = [0u32; 3];
-    weights::weights(0, 0, &means, &mut out);
-    labelled(b"weights of the example: ", from_u32(out[0]));
+    weights::weights(profile, weekday, &means, calendar, &mut out);
+    labelled(label, from_u32(out[0]));
     labelled(b" ", from_u32(out[1]));
     labelled(b" ", from_u32(out[2]));
     end_line();
+}
+
+// The paper's example, from a Monday; and a bakery's days from a Thursday, first a working day, then a holiday.
+fn spans() {
+    let own = [7u8; 3];
+    let holiday = [6u8, 7, 7];
+    three_days(b"weights of the example: ", 0, 0, &own);
+    three_days(b"GBA33 from a working Thursday: ", 7, 3, &own);
+    three_days(b"GBA33 from a Thursday holiday: ", 7, 3, &holiday);
 }
 
 fn answered(answer: CustomerAnswer) {
@@ -335,7 +344,7 @@ fn main() {
     near();
     weeks();
     table();
-    example();
+    spans();
     customers();
     split();
 }

@@ -12,6 +12,7 @@ use Rattle.common.specs.Below.{somewhere, first, last}
 use Rattle.common.proofs.Rows.{rows-all}
 use Rattle.profile.specs.Limits.{profileCount}
 use Rattle.weights.specs.Means.{someOut}
+use Rattle.weights.specs.Calendar.{someNoDay}
 use Rattle.weights.specs.Weights.{Ruling, ruling, unfit}
 use Rattle.account.specs.Account.{Account, account}
 use Rattle.account.specs.Stands.{lastLessFirst}
@@ -47,18 +48,21 @@ abbrev NoPlace : Ruling → Type 0
 NoPlace r = r .number ≡ 0 → r .place ≡ 0
 
 pub every-weighed : EveryWeighed
-every-weighed profile weekday means meansAfter lent place a met marks counts =
-    let none : NoPlace (ruling profile weekday means lent) =
-    rows-all NoPlace (unfit means lent) (λ e. refl)
+every-weighed profile weekday means meansAfter calendar calendarAfter lent place a met marks counts =
+    let none : NoPlace (ruling profile weekday means calendar lent) =
+    rows-all NoPlace (unfit means calendar lent) (λ e. refl)
     (rows-all NoPlace (leb profileCount profile) (λ e. refl)
     (rows-all NoPlace (ltb 6 weekday) (λ e. refl)
-    (rows-all NoPlace (someOut means) (λ e. absurd (omega (arith, e))) (λ e. refl)))) in
+    (rows-all NoPlace (someOut means) (λ e. absurd (omega (arith, e)))
+    (rows-all NoPlace (someNoDay calendar) (λ e. absurd (omega (arith, e))) (λ e. refl))))) in
     let at : place ≡ 0 = met .places ∙ none (sym (met .answers)) in
     record {
       profile = profile;
       weekday = weekday;
       means = means;
       meansAfter = meansAfter;
+      calendar = calendar;
+      calendarAfter = calendarAfter;
       lent = lent;
       given = rw at at met;
       marks-long = marks;

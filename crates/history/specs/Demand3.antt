@@ -74,14 +74,17 @@ pub record Demand3 (w : List ℕ) (es : List Event) : Type 0 where
       p ≤ b → b ≤ q → marked (standing w before₁) b ≡ true → marked (standing w before₂) b ≡ true →
       energy out₁ p b m₁ ≡ energy out₂ p b m₂
 
--- "... over weights from demand 2": the weights are those that some weights call gave, and marks and counts have the lengths for them
+-- "... over weights from demand 2": the weights are those that some weights call gave, with any calendar (K1: "statements follow from those weights"), and marks
+-- and counts have the lengths for them
 pub record Weighed (a : Account) : Type 0 where
   pub profile : ℕ
   pub weekday : ℕ
   pub means : List ℤ
   pub meansAfter : List ℤ
+  pub calendar : List ℕ
+  pub calendarAfter : List ℕ
   pub lent : List ℕ
-  pub given : WeightsMet profile weekday means lent 0 0 (a .weights) meansAfter
+  pub given : WeightsMet profile weekday means calendar lent 0 0 (a .weights) meansAfter calendarAfter
   pub marks-long : length (a .marks) ≡ length (a .weights) + 1
   pub counts-long : length (a .counts) ≡ length (a .weights) + 1
 

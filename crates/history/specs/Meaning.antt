@@ -33,8 +33,8 @@ CarriesOne = (w : List ℕ) (s : Stands) (a b : Account) → Carries w s a → C
 -- every weights call answered 0 makes weights "from demand 2", for marks and counts of the lengths for them (`every-weighed`)
 abbrev pub EveryWeighed : Type 0
 EveryWeighed =
-    (profile weekday : ℕ) (means meansAfter : List ℤ) (lent : List ℕ) (place : ℕ) (a : Account) →
-    WeightsMet profile weekday means lent 0 place (a .weights) meansAfter →
+    (profile weekday : ℕ) (means meansAfter : List ℤ) (calendar calendarAfter lent : List ℕ) (place : ℕ) (a : Account) →
+    WeightsMet profile weekday means calendar lent 0 place (a .weights) meansAfter calendarAfter →
     length (a .marks) ≡ length (a .weights) + 1 → length (a .counts) ≡ length (a .weights) + 1 → Weighed a
 
 -- "The following holds for every list": whatever calls follow an accepted open, these calls have a list of events that `Demand3` is about (`every-list-holds`)

@@ -51,9 +51,9 @@ pub record Tied : Type 1 where
       Step (accountIn (a .0) (a .1 .0) (a .1 .1 .0))
       (run.statement (outputsIn (a .1 .1 .1 .0) (a .1 .1 .1 .1 .0) (a .1 .1 .1 .1 .1 .0)) (statement.number r) (statement.partCount r) (accountIn (s .0) (s .1 .0) (s .1 .1 .0))
       (outputsIn (s .1 .1 .1 .0) (s .1 .1 .1 .1 .0) (s .1 .1 .1 .1 .1 .0)))
-  pub weights-is : (κs : Lifetimes.Lfts 2) (a : Kinds.Dens κs weights-kinds.ps) (r : _) (s : _) →
+  pub weights-is : (κs : Lifetimes.Lfts 3) (a : Kinds.Dens κs weights-kinds.ps) (r : _) (s : _) →
       weights-reads.Post κs a r s ≡
-      WeightsMet (a .0) (a .1 .0) (now (a .1 .1 .0)) (now (a .1 .1 .1 .0)) (weights.number r) (weights.place r) (now (s .1 .1 .1 .0)) (now (s .1 .1 .0))
+      WeightsMet (a .0) (a .1 .0) (now (a .1 .1 .0)) (now (a .1 .1 .1 .0)) (now (a .1 .1 .1 .1 .0)) (weights.number r) (weights.place r) (now (s .1 .1 .1 .1 .0)) (now (s .1 .1 .0)) (now (s .1 .1 .1 .0))
   pub open-asks-nothing : AsksNothing open-reads.Pre
   pub reading-asks-nothing : AsksNothing reading-reads.Pre
   pub withdraw-asks-nothing : AsksNothing withdraw-reads.Pre

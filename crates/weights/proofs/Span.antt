@@ -7,10 +7,11 @@ use lib.ListN.{length, getD}
 use Rattle.common.proofs.Lists.{listOf-length, listOf-at}
 use Rattle.weights.specs.Weights.{dayWeight, weightsOf}
 
-pub weights-length : (profile weekday : ℕ) (means : List ℤ) → length (weightsOf profile weekday means) ≡ length means - 3
+pub weights-length : (profile weekday : ℕ) (means : List ℤ) (calendar : List ℕ) → length (weightsOf profile weekday means calendar) ≡ length means - 3
 unfolding weightsOf
-weights-length profile weekday means = listOf-length _ _
+weights-length profile weekday means calendar = listOf-length _ _
 
-pub weights-at : (profile weekday : ℕ) (means : List ℤ) (k : ℕ) → k < length means - 3 → getD (weightsOf profile weekday means) k 0 ≡ dayWeight profile weekday means k
+pub weights-at : (profile weekday : ℕ) (means : List ℤ) (calendar : List ℕ) (k : ℕ) → k < length means - 3
+    → getD (weightsOf profile weekday means calendar) k 0 ≡ dayWeight profile weekday means calendar k
 unfolding weightsOf
-weights-at profile weekday means k h = listOf-at _ _ k h
+weights-at profile weekday means calendar k h = listOf-at _ _ k h

@@ -1,4 +1,4 @@
-// Allocation temperatures, the choice of the series of means, and the weights of a span (Temperature of a day).
+// Allocation temperatures, the choice of the series of means, and the weights of a span (Temperature of a day, K1).
 mod days;
 mod means;
 
@@ -18,12 +18,14 @@ pub enum TemperatureAnswer {
 
 pub enum WeightsAnswer {
     Done,
-    // Too few or too many means, or an output of another length.
+    // Too few or too many means, or an output or a calendar of another length.
     Unfit,
     NoProfile,
     NoWeekday,
     // The index of the first such mean.
     OutOfRange(usize),
+    // The index of the first byte of the calendar that is above 7.
+    NoDay(usize),
 }
 
 // The allocation temperature of four daily means, today's first.
@@ -64,9 +66,15 @@ pub fn choose<'a>(measured: &'a [i16], forecast: &'a [i16], n: usize) -> &'a [i1
     &measured[..0]
 }
 
-// The weight of each day of a span, from its means, oldest first, and the weekday of day 0.
-pub fn weights(profile: u8, weekday: u8, means: &[i16], out: &mut [u32]) -> WeightsAnswer
-    ensures { λ r. ⌜ WeightsMet profile weekday (now (means .entry)) (now (out .entry)) (spans.number r) (spans.place r) (now (out .exit)) (now (means .exit)) ⌝ }
+// The weight of each day of a span, from its means, oldest first, the weekday of day 0, and which weekday each day counts as (7: its own).
+pub fn weights(
+    profile: u8,
+    weekday: u8,
+    means: &[i16],
+    calendar: &[u8],
+    out: &mut [u32],
+) -> WeightsAnswer
+    ensures { λ r. ⌜ WeightsMet profile weekday (now (means .entry)) (now (calendar .entry)) (now (out .entry)) (spans.number r) (spans.place r) (now (out .exit)) (now (means .exit)) (now (calendar .exit)) ⌝ }
 {
     if means.len() < Profile::SPAN_LEAST + 3 {
         return WeightsAnswer::Unfit;
@@ -78,6 +86,9 @@ pub fn weights(profile: u8, weekday: u8, means: &[i16], out: &mut [u32]) -> Weig
     if out.len() != n {
         return WeightsAnswer::Unfit;
     }
+    if calendar.len() != n {
+        return WeightsAnswer::Unfit;
+    }
     if Profile::COUNT <= profile {
         clear_u32(out);
         return WeightsAnswer::NoProfile;
@@ -87,10 +98,15 @@ pub fn weights(profile: u8, weekday: u8, means: &[i16], out: &mut [u32]) -> Weig
         return WeightsAnswer::NoWeekday;
     }
     let first = means::first_out(means);
+    let no_day = days::first_no_day(calendar);
     if first < means.len() {
         clear_u32(out);
         return WeightsAnswer::OutOfRange(first);
     }
-    days::fill(profile, weekday, means, out);
+    if no_day < n {
+        clear_u32(out);
+        return WeightsAnswer::NoDay(no_day);
+    }
+    days::fill(profile, weekday, means, calendar, out);
     WeightsAnswer::Done
 }

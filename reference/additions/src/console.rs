@@ -7,6 +7,7 @@ use model::{account, statement, value, Answer, Boundary, Mean, ProfileNumber, We
 const HELP: &str = "\
 weights W W ..               opens an account with these weights, one for each day
 days PROFILE WEEKDAY M M ..  opens an account with the weights that these daily means give
+days .. M M .. as B B ..     does the same, with a byte B for each day
 reading K COUNT              sets a reading of COUNT Wh at boundary K
 withdraw K                   removes the reading at boundary K
 cut K                        sets a cut at boundary K
@@ -15,6 +16,7 @@ statement                    prints the statement of the account
 help                         prints this text
 Profiles are 0 to 9, and weekdays are 0 (Monday) to 6.
 Means are hundredths of a degree C, oldest first. The first three are of the days before day 0.
+A byte is 0 to 6, the weekday that the day counts as, or 7, its own. Without bytes each day keeps its own.
 The answer is done, refused NUMBER PLACE or the statement. A line that is no call gets unknown LINE.
 Empty lines and lines that begin with # get no answer.
 ";
@@ -28,7 +30,8 @@ pub struct Run {
 
 enum Line {
     Weights(Vec<u32>),
-    Days(ProfileNumber, Weekday, Vec<Mean>),
+    /// With its calendar: 7 throughout if the line has none.
+    Days(ProfileNumber, Weekday, Vec<Mean>, Vec<u8>),
     Reading(Boundary, u64),
     Withdraw(Boundary),
     Cut(Boundary),
@@ -62,7 +65,13 @@ fn parse(words: &[&[u8]]) -> Option<Line> {
     Some(match words[..] {
         ["weights", ref rest @ ..] => Line::Weights(rest.iter().map(|word| number(word)).collect::<Option<_>>()?),
         ["days", profile, weekday, ref rest @ ..] => {
-            Line::Days(number(profile)?, number(weekday)?, rest.iter().map(|word| mean(word)).collect::<Option<_>>()?)
+            let mut lists = rest.splitn(2, |word| *word == "as");
+            let means: Vec<Mean> = lists.next()?.iter().map(|word| mean(word)).collect::<Option<_>>()?;
+            let calendar = match lists.next() {
+                Some(words) => words.iter().map(|word| number(word)).collect::<Option<_>>()?,
+                None => vec![7; means.len().saturating_sub(3)],
+            };
+            Line::Days(number(profile)?, number(weekday)?, means, calendar)
         }
         ["reading", k, count] => Line::Reading(number(k)?, number(count)?),
         ["withdraw", k] => Line::Withdraw(number(k)?),
@@ -109,9 +118,9 @@ impl Account {
             Line::Statement => return self.statement(),
             Line::Help => return HELP.to_string(),
             Line::Weights(weights) => self.open(weights),
-            Line::Days(profile, weekday, means) => {
+            Line::Days(profile, weekday, means, calendar) => {
                 let mut weights = vec![0; means.len().saturating_sub(3)];
-                match value::weights(profile, weekday, &means, &mut weights) {
+                match value::weights(profile, weekday, &means, &calendar, &mut weights) {
                     DONE => self.open(weights),
                     answer => answer,
                 }

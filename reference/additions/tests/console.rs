@@ -77,6 +77,38 @@ fn the_example_file_as_a_script() {
     assert_eq!(run(script)[5..], ["parts 3", "0 1 33", "1 2 34", "2 3 33", "sum 100"]);
 }
 
+/// Change request K1: the working day and the holiday of a bakery, and days that name their own weekday.
+#[test]
+fn days_of_a_calendar() {
+    for (calendar, parts) in [
+        ("", ["0 1 411", "1 2 413", "2 3 176"]),
+        ("as 7 7 7", ["0 1 411", "1 2 413", "2 3 176"]),
+        (" as  3 04\t5", ["0 1 411", "1 2 413", "2 3 176"]),
+        ("as 6 7 7", ["0 1 370", "1 2 442", "2 3 188"]),
+    ] {
+        let days = format!("days 7 3 1000 1000 1000 1000 1000 1000 {calendar}");
+        let script = days + "\nreading 0 0\nreading 3 1000\ncut 1\ncut 2\nstatement\n";
+        assert_eq!(run(&script)[6..9], parts, "{calendar:?}");
+    }
+}
+
+#[test]
+fn refused_calendars() {
+    for (line, answer) in [
+        ("days 7 3 1000 1000 1000 1000 1000 1000 as 7 8 9", "refused 14 1"),
+        ("days 7 3 1000 1000 1000 1000 1000 1000 as 255 7 7", "refused 14 0"),
+        ("days 7 3 1000 1000 1000 1000 1000 4000 as 8 7 7", "refused 4 5"),
+        ("days 7 7 1000 1000 1000 1000 1000 1000 as 0 1 2", "refused 2 0"),
+        ("days 7 3 1000 1000 1000 1000 1000 1000 as 7 7", "refused 3 0"),
+        ("days 7 3 1000 1000 1000 1000 1000 1000 as 7 7 7 7", "refused 3 0"),
+        ("days 7 3 1000 1000 1000 1000 1000 1000 as", "refused 3 0"),
+        ("days 7 3 as", "refused 3 0"),
+        ("days 7 3 as 7", "refused 3 0"),
+    ] {
+        assert_eq!(run(line), [answer], "{line:?}");
+    }
+}
+
 #[test]
 fn refused_openings_leave_the_account() {
     let script = "weights 7 7\nreading 0 0\nreading 2 1\nweights 7000000\ndays 10 9 1\ndays 10 9 1 2 3 4\n\
@@ -96,6 +128,10 @@ fn too_many_days() {
     assert_eq!(run(&days(1_099)), ["done"]);
     assert_eq!(run(&days(1_100)), ["refused 3 0"]);
     assert_eq!(run(&days(0)), ["refused 3 0"]);
+    let bytes = |n| days(1_099) + " as" + &" 7".repeat(n);
+    assert_eq!(run(&bytes(1_096)), ["done"]);
+    assert_eq!(run(&bytes(1_097)), ["refused 3 0"]);
+    assert_eq!(run(&bytes(99_999)), ["refused 3 0"]);
 }
 
 #[test]
@@ -125,6 +161,17 @@ fn lines_that_are_no_calls() {
         "days 0 0 - 1",
         "days 0 0 --1",
         "days -0 0",
+        "days as 0 0 0 0 0",
+        "days 0 as 0 0 0 0",
+        "days 0 0 0 0 0 0 as x",
+        "days 0 0 0 0 0 0 as 256",
+        "days 0 0 0 0 0 0 as -1",
+        "days 0 0 0 0 0 0 as -0",
+        "days 0 0 0 0 0 0 as 7 as",
+        "days 0 0 0 0 0 0 as as 7",
+        "days 0 0 0 0 0 0 As 7",
+        "days 0 0 0 0 0 0 as7",
+        "weights 1 as 7",
         "help 1",
         "help #",
         "statement # now",
@@ -192,7 +239,7 @@ fn the_ends_of_lines() {
 #[test]
 fn help_names_every_call() {
     let help = run("help");
-    let names = ["weights", "days", "reading", "withdraw", "cut", "uncut", "statement", "help"];
+    let names = ["weights", "days", "days", "reading", "withdraw", "cut", "uncut", "statement", "help"];
     for (line, name) in help.iter().zip(names) {
         assert_eq!(line.split(' ').next(), Some(name));
     }
@@ -228,7 +275,16 @@ fn long_scripts_and_lines() {
 #[test]
 fn a_bad_word_past_the_longest_span() {
     let line = |head: &str, words: usize, last: &str| format!("{head}{} {last}\n", " 1".repeat(words));
-    for (head, words) in [("weights", 1_096), ("weights", 99_999), ("days 0 0", 1_099), ("days 0 0", 99_999)] {
+    let calendar = "days 0 0 1 1 1 1 as";
+    for (head, words) in [
+        ("weights", 1_096),
+        ("weights", 99_999),
+        ("days 0 0", 1_099),
+        ("days 0 0", 99_999),
+        (calendar, 1),
+        (calendar, 1_096),
+        (calendar, 99_999),
+    ] {
         assert_eq!(console(line(head, words, "1").as_bytes()).text, "refused 3 0\n");
         assert_eq!(console(line(head, words, "x").as_bytes()).text, "unknown 1\n");
         assert_eq!(console(line(head, words, "1 x").as_bytes()).text, "unknown 1\n");

@@ -45,6 +45,7 @@ pub enum Input {
         profile: ProfileNumber,
         weekday: Weekday,
         means: Vec<Mean>,
+        calendar: Vec<u8>,
         out: Vec<u32>,
     },
     Open(Account),
@@ -277,10 +278,10 @@ impl Input {
                 let (answer, weight) = library.day_weight(*profile, *weekday, *t);
                 of(answer, &[weight as u64], vec![])
             }
-            Input::Weights { profile, weekday, means, out } => {
-                let (means, mut out) = (Lent::new(means), Lent::new(out));
-                let answer = library.weights(*profile, *weekday, means.get(), out.get_mut());
-                of(answer, &[], vec![means.wide(), out.wide()])
+            Input::Weights { profile, weekday, means, calendar, out } => {
+                let (means, calendar, mut out) = (Lent::new(means), Lent::new(calendar), Lent::new(out));
+                let answer = library.weights(*profile, *weekday, means.get(), calendar.get(), out.get_mut());
+                of(answer, &[], vec![means.wide(), calendar.wide(), out.wide()])
             }
             Input::Open(account) => list(library, account, &[]),
             Input::Reading(account, k, count) => one_call(library, account, Call::Reading(*k, *count), &none),

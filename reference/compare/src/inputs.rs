@@ -409,16 +409,38 @@ fn choose(random: &mut Random) -> Input {
     Input::Choose { measured: series(random), forecast: series(random), n }
 }
 
+/// A calendar of that length with all, some, a few or none of its days named, one time in `damage` with bytes above 7.
+fn calendar(random: &mut Random, length: usize, damage: u64) -> Vec<u8> {
+    let named_in = random.pick(&[1, 2, 8, 1_000]);
+    let byte = |_| if random.once_in(named_in) { random.below(7) as u8 } else { 7 };
+    let mut calendar: Vec<u8> = (0..length).map(byte).collect();
+    if random.once_in(damage) && length > 0 {
+        for _ in 0..random.length(1, 3) {
+            let at = [0, length / 2, length - 1, random.length(0, length - 1)];
+            calendar[random.pick(&at)] = random.pick(&[8, 9, 13, 14, 128, 254, 255]);
+        }
+    }
+    calendar
+}
+
 fn span(random: &mut Random) -> Input {
     let n = days(random);
     let count = length(random, n + 3);
     let right = count.saturating_sub(3);
     let out = vec![0xdead_beef; length(random, right)];
-    Input::Weights { profile: profile(random), weekday: weekday(random), means: means(random, count, 5), out }
+    // Seldom as many bytes as means, which is three too many.
+    let bytes = if random.once_in(30) { count } else { length(random, right) };
+    Input::Weights {
+        profile: profile(random),
+        weekday: weekday(random),
+        means: means(random, count, 5),
+        calendar: calendar(random, bytes, 5),
+        out,
+    }
 }
 
 /// Lines of a script that are no calls.
-const UNKNOWN: [&str; 26] = [
+const UNKNOWN: [&str; 30] = [
     "cut",
     "cut 1 2",
     "cut x",
@@ -437,6 +459,10 @@ const UNKNOWN: [&str; 26] = [
     "days 0",
     "days 256 0 1 2 3 4",
     "days 0 0 1 2 3 32768",
+    "days 0 0 1 2 3 4 as x",
+    "days 0 0 1 2 3 4 as 256",
+    "days 0 0 1 2 3 4 as 7 as",
+    "days 0 0 1 2 3 4 As 7",
     "Cut 1",
     "uncut -1",
     "withdraw 99999999999999999999",
@@ -448,7 +474,7 @@ const UNKNOWN: [&str; 26] = [
 ];
 
 /// Lines that have an answer, or none, whatever stands.
-const OTHERS: [&str; 12] = [
+const OTHERS: [&str; 14] = [
     "",
     " ",
     "\t",
@@ -460,6 +486,8 @@ const OTHERS: [&str; 12] = [
     "help",
     "weights",
     "days 0 0 1 2",
+    "days 0 0 1 2 3 4 as",
+    "days 0 0 as",
     "days 0 0 -0 007 -32768 32767",
 ];
 
@@ -477,9 +505,16 @@ fn opening(random: &mut Random, n: usize) -> String {
         for mean in means(random, count, 6) {
             line += &format!(" {mean}");
         }
+        if random.once_in(2) {
+            line += " as";
+            let bytes = length(random, count.saturating_sub(3));
+            for byte in calendar(random, bytes, 6) {
+                line += &format!(" {byte}");
+            }
+        }
     }
     if random.once_in(100) {
-        line += random.pick(&[" x", " 99999"]);
+        line += random.pick(&[" x", " 99999", " as"]);
     }
     line
 }
@@ -531,7 +566,8 @@ fn script_lines(random: &mut Random) -> Vec<String> {
 /// The start of a script, of any length, and mostly with more words than the longest span has days.
 fn long_lines(random: &mut Random) -> String {
     let length = random.length(1, 99_999);
-    let list = random.pick(&["weights", "days 0 0", "weights x"]).to_string() + &" 1".repeat(length);
+    let head = random.pick(&["weights", "days 0 0", "days 0 0 1 1 1 1 as", "weights x"]);
+    let list = head.to_string() + &" 1".repeat(length);
     match random.below(4) {
         0 => random.pick(&["\n", "#", " ", "\t", "x", "\r\n"]).repeat(length),
         1 => list + " x\n",

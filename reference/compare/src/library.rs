@@ -12,7 +12,14 @@ pub trait Library {
     fn choose<'a>(&self, measured: &'a [Mean], forecast: &'a [Mean], n: usize) -> &'a [Mean];
     fn value(&self, profile: ProfileNumber, t: Mean) -> (Answer, i64, i64);
     fn day_weight(&self, profile: ProfileNumber, weekday: Weekday, t: Mean) -> (Answer, u32);
-    fn weights(&self, profile: ProfileNumber, weekday: Weekday, means: &[Mean], out: &mut [u32]) -> Answer;
+    fn weights(
+        &self,
+        profile: ProfileNumber,
+        weekday: Weekday,
+        means: &[Mean],
+        calendar: &[u8],
+        out: &mut [u32],
+    ) -> Answer;
     fn open(&self, weights: &[u32], marks: &mut [u8], counts: &mut [u64]) -> Answer;
     fn reading(&self, weights: &[u32], marks: &mut [u8], counts: &mut [u64], k: Boundary, count: u64) -> Answer;
     fn withdraw(&self, weights: &[u32], marks: &mut [u8], counts: &mut [u64], k: Boundary) -> Answer;
@@ -38,7 +45,7 @@ pub trait Library {
     }
 }
 
-type Weights = fn(ProfileNumber, Weekday, &[Mean], &mut [u32]) -> Answer;
+type Weights = fn(ProfileNumber, Weekday, &[Mean], &[u8], &mut [u32]) -> Answer;
 type Reading = fn(&[u32], &mut [u8], &mut [u64], Boundary, u64) -> Answer;
 type Statement = fn(&[u32], &[u8], &[u64], &mut [u16], &mut [u16], &mut [u64]) -> (Answer, usize);
 type Read = fn(&[u8], &mut [u32], &mut [u8], &mut [u64]) -> (Answer, usize);
@@ -92,8 +99,15 @@ impl Library for Version {
     fn day_weight(&self, profile: ProfileNumber, weekday: Weekday, t: Mean) -> (Answer, u32) {
         value::day_weight(profile, weekday, t)
     }
-    fn weights(&self, profile: ProfileNumber, weekday: Weekday, means: &[Mean], out: &mut [u32]) -> Answer {
-        (self.weights)(profile, weekday, means, out)
+    fn weights(
+        &self,
+        profile: ProfileNumber,
+        weekday: Weekday,
+        means: &[Mean],
+        calendar: &[u8],
+        out: &mut [u32],
+    ) -> Answer {
+        (self.weights)(profile, weekday, means, calendar, out)
     }
     fn open(&self, weights: &[u32], marks: &mut [u8], counts: &mut [u64]) -> Answer {
         account::open(weights, marks, counts)

@@ -59,7 +59,7 @@ extern "C" {
     fn arvadush_value(profile: ProfileNumber, t: Mean) -> Values;
     fn arvadush_day_weight(profile: ProfileNumber, weekday: Weekday, t: Mean) -> Outcome<u64>;
     fn arvadush_weights(profile: ProfileNumber, weekday: Weekday,
-        means: *const Mean, _: usize, out: *mut u32, _: usize) -> Outcome<u64>;
+        means: *const Mean, _: usize, calendar: *const u8, _: usize, out: *mut u32, _: usize) -> Outcome<u64>;
     fn arvadush_open(weights: *const u32, _: usize, marks: *mut u8, _: usize, counts: *mut u64, _: usize) -> u8;
     fn arvadush_reading(weights: *const u32, _: usize, marks: *mut u8, _: usize, counts: *mut u64, _: usize,
         k: Boundary, count: u64) -> u8;
@@ -110,9 +110,11 @@ impl Library for Proved {
         let returned = unsafe { arvadush_day_weight(profile, weekday, t) };
         (returned.answer(), u32::try_from(returned.value).unwrap_or(u32::MAX))
     }
-    fn weights(&self, profile: ProfileNumber, weekday: Weekday, means: &[Mean], out: &mut [u32]) -> Answer {
+    fn weights(&self, profile: ProfileNumber, weekday: Weekday, means: &[Mean], calendar: &[u8],
+        out: &mut [u32]) -> Answer {
         let returned = unsafe {
-            arvadush_weights(profile, weekday, means.as_ptr(), means.len(), out.as_mut_ptr(), out.len())
+            arvadush_weights(profile, weekday, means.as_ptr(), means.len(), calendar.as_ptr(), calendar.len(),
+                out.as_mut_ptr(), out.len())
         };
         returned.answer_alone()
     }

@@ -48,7 +48,8 @@ pub fn table(libraries: &[Box<dyn Library>], mut report: impl FnMut(&Input, &str
     for profile in 0..10 {
         for t in Profile::COLDEST..=Profile::WARMEST {
             let weights = (0..7).map(|weekday| Input::DayWeight(profile, weekday, t));
-            let week = Input::Weights { profile, weekday: 0, means: vec![t; 10], out: vec![0; 7] };
+            let week =
+                Input::Weights { profile, weekday: 0, means: vec![t; 10], calendar: vec![7; 7], out: vec![0; 7] };
             for input in weights.chain([Input::Value(profile, t), week]) {
                 inputs += 1;
                 compare(&input, libraries).1.iter().for_each(|difference| report(&input, difference));

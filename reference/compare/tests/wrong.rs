@@ -1,4 +1,5 @@
-//! Sections "Buyer's note on contracts" and "Errors seen in other houses": the comparison finds each wrong library.
+//! Sections "Buyer's note on contracts" and "Errors seen in other houses", and change request K1: the comparison finds each
+//! wrong library.
 
 use additions::texts::lay_out;
 use compare::checks::Input;
@@ -6,8 +7,9 @@ use compare::demand3;
 use compare::library::{compared, Library, MODEL};
 use compare::programs;
 use compare::run::{compare, input, one, Tally};
-use model::{refused, Answer, Boundary, Mean, ProfileNumber, Weekday, DONE};
+use model::{refused, refused_at, Answer, Boundary, Mean, ProfileNumber, Weekday, DONE};
 use std::cell::RefCell;
+use std::ops::RangeInclusive;
 
 /// The model with one fault, by name.
 struct Wrong(&'static str, RefCell<Option<(Vec<u16>, Vec<u16>, Vec<u64>, usize)>>);
@@ -16,6 +18,31 @@ impl Wrong {
     fn is(&self, fault: &str) -> bool {
         self.0 == fault
     }
+
+    /// The calendar of n days as weights with the fault take it.
+    fn taken(&self, calendar: &[u8], n: usize) -> Vec<u8> {
+        let mut calendar = calendar.to_vec();
+        match self.0 {
+            "calendar ignored" => replace(&mut calendar, 0..=6, 7),
+            "7 is Monday" => replace(&mut calendar, 7..=7, 0),
+            "every named day is Sunday" => replace(&mut calendar, 0..=6, 6),
+            "a named day shifts the days after it" => {
+                for k in 1..calendar.len() {
+                    if calendar[k] == 7 && calendar[k - 1] < 7 {
+                        calendar[k] = (calendar[k - 1] + 1) % 7;
+                    }
+                }
+            }
+            "8 taken" => replace(&mut calendar, 8..=8, 7),
+            "calendar of another length taken" => calendar.resize(n, 7),
+            _ => {}
+        }
+        calendar
+    }
+}
+
+fn replace(bytes: &mut [u8], old: RangeInclusive<u8>, new: u8) {
+    bytes.iter_mut().filter(|byte| old.contains(byte)).for_each(|byte| *byte = new)
 }
 
 impl Library for Wrong {
@@ -61,15 +88,32 @@ impl Library for Wrong {
             _ => (answer, weight),
         }
     }
-    fn weights(&self, profile: ProfileNumber, weekday: Weekday, means: &[Mean], out: &mut [u32]) -> Answer {
+    fn weights(
+        &self,
+        profile: ProfileNumber,
+        weekday: Weekday,
+        means: &[Mean],
+        calendar: &[u8],
+        out: &mut [u32],
+    ) -> Answer {
         if self.is("weekday after the means") && weekday > 6 && profile < 10 {
-            let answer = MODEL.weights(profile, 0, means, out);
-            return if answer == DONE { MODEL.weights(profile, weekday, means, out) } else { answer };
+            let answer = MODEL.weights(profile, 0, means, calendar, out);
+            return if answer == DONE { MODEL.weights(profile, weekday, means, calendar, out) } else { answer };
+        }
+        if self.is("weekday not asked of a full calendar") && calendar.iter().all(|byte| *byte < 7) {
+            return MODEL.weights(profile, 0, means, calendar, out);
         }
         let before = out.to_vec();
-        let answer = MODEL.weights(profile, weekday, means, out);
-        if self.is("weights untouched after 4") && answer.number == 4 {
-            out.copy_from_slice(&before);
+        let answer = MODEL.weights(profile, weekday, means, &self.taken(calendar, out.len()), out);
+        match (self.0, answer.number) {
+            ("weights untouched after 4", 4) | ("14 leaves the weights", 14) => out.copy_from_slice(&before),
+            ("14 before 4", 4) | ("14 before 2", 2) => {
+                return calendar.iter().position(|byte| *byte > 7).map_or(answer, |index| refused_at(14, index))
+            }
+            ("14 at the last such byte", 14) => {
+                return refused_at(14, calendar.iter().rposition(|byte| *byte > 7).unwrap())
+            }
+            _ => {}
         }
         answer
     }
@@ -283,7 +327,7 @@ const IN_LISTS: [&str; 18] = [
     "first statement repeated",
 ];
 
-const ELSEWHERE: [&str; 27] = [
+const ELSEWHERE: [&str; 38] = [
     "open leaves the counts",
     "boundary cut to 16 bits",
     "oldest mean weighted most",
@@ -295,6 +339,17 @@ const ELSEWHERE: [&str; 27] = [
     "high value one less",
     "weekday after the means",
     "weights untouched after 4",
+    "calendar ignored",
+    "7 is Monday",
+    "every named day is Sunday",
+    "a named day shifts the days after it",
+    "8 taken",
+    "calendar of another length taken",
+    "weekday not asked of a full calendar",
+    "14 before 2",
+    "14 before 4",
+    "14 at the last such byte",
+    "14 leaves the weights",
     "customer value rounded down",
     "12 from 10^12 on",
     "daily halves down",
@@ -343,7 +398,7 @@ fn no_difference_without_a_fault() {
     for index in 0..30_000 {
         one(SEED, index, &libraries, &mut tally, |input, text| panic!("{input:?}\n{text}"));
     }
-    for (kind, least) in [("reading", 7), ("statement", 4), ("case file", 9), ("weights", 5), ("customer value", 5)] {
+    for (kind, least) in [("reading", 7), ("statement", 4), ("case file", 9), ("weights", 6), ("customer value", 5)] {
         assert!(tally[kind].len() >= least, "{kind} reaches too few rows: {:?}", tally[kind]);
     }
 }

@@ -105,7 +105,9 @@ impl Reader<'_> {
         let means = self.means()?;
         let n = means.len() - 3;
         let mut contents = Contents { weights: vec![0; n], marks: vec![0; n + 1], counts: vec![0; n + 1] };
-        assert_eq!(value::weights(profile, weekday, &means, &mut contents.weights), DONE);
+        // Change request K1: "case files of today's layout mean 7 throughout".
+        let own_days = vec![7; n];
+        assert_eq!(value::weights(profile, weekday, &means, &own_days, &mut contents.weights), DONE);
         self.readings(&mut contents)?;
         self.cuts(&mut contents)?;
         if self.at < self.file.len() {

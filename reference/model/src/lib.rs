@@ -1,4 +1,5 @@
-//! The paper's rules as plain Rust, sections "Temperature of a day" to "If a call declines"; here what the files share.
+//! The paper's rules as plain Rust, sections "Temperature of a day" to "If a call declines", with its change requests; here
+//! what the files share.
 
 pub mod account;
 pub mod casefile;
@@ -18,8 +19,8 @@ pub type Boundary = usize;
 pub type ProfileNumber = u8;
 pub type Weekday = u8;
 
-/// What a call returns beside its values: the number of its row in section "If a call declines" (0 is done)
-/// and the index or place (0 if it has none).
+/// What a call returns beside its values: the number of its row in section "If a call declines" or of a change request
+/// (0 is done), and the index or place (0 if it has none).
 #[derive(Clone, Copy, Debug, PartialEq, Eq)]
 pub struct Answer {
     pub number: u8,

@@ -1,5 +1,5 @@
 //! Section "Profile value": the value low and high and a day's weight; and the weights of a span, whose days and
-//! weekdays are those of section "Temperature of a day".
+//! weekdays are those of section "Temperature of a day", with the calendar of change request K1.
 
 use crate::power::{divide, power_high, power_low, Rounding, ONE};
 use crate::profile::{Profile, PROFILES};
@@ -66,26 +66,37 @@ pub fn day_weight(profile: ProfileNumber, weekday: Weekday, t: Mean) -> (Answer,
     (DONE, weight_rule(&PROFILES[profile as usize], weekday as usize, t))
 }
 
-/// The weights of the days of a series, oldest mean first: day k has its own mean at index k+3.
-pub fn weights(profile: ProfileNumber, weekday: Weekday, means: &[Mean], out: &mut [u32]) -> Answer {
-    if means.len() < 4 || means.len() > Profile::LONGEST + 3 || out.len() != means.len() - 3 {
+/// The weekday that day k counts as: the one that its byte names, 0 to 6, or its own if the byte is 7.
+fn counts_as(weekday: Weekday, calendar: &[u8], k: usize) -> usize {
+    match calendar[k] {
+        7 => (weekday as usize + k) % 7,
+        named => named as usize,
+    }
+}
+
+/// The weights of the days of a series, oldest mean first: day k has its own mean at index k+3, and its byte of the
+/// calendar at index k.
+pub fn weights(profile: ProfileNumber, weekday: Weekday, means: &[Mean], calendar: &[u8], out: &mut [u32]) -> Answer {
+    let n = means.len().saturating_sub(3);
+    if !(1..=Profile::LONGEST).contains(&n) || calendar.len() != n || out.len() != n {
         return refused(3);
     }
     let answer = if profile > 9 {
         refused(1)
     } else if weekday > 6 {
         refused(2)
+    } else if let Some(index) = means.iter().position(|mean| !in_range(*mean)) {
+        refused_at(4, index)
+    } else if let Some(index) = calendar.iter().position(|byte| *byte > 7) {
+        refused_at(14, index)
     } else {
-        match means.iter().position(|mean| !in_range(*mean)) {
-            Some(index) => refused_at(4, index),
-            None => DONE,
-        }
+        DONE
     };
-    for k in 0..out.len() {
+    for k in 0..n {
         out[k] = 0;
         if answer == DONE {
             let t = rule(means[k + 3], means[k + 2], means[k + 1], means[k]);
-            out[k] = weight_rule(&PROFILES[profile as usize], (weekday as usize + k) % 7, t);
+            out[k] = weight_rule(&PROFILES[profile as usize], counts_as(weekday, calendar, k), t);
         }
     }
     answer

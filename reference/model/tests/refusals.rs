@@ -1,5 +1,5 @@
-//! Section "If a call declines": rows 1 to 11 and 13, the order of the checks, the memory after. Row 12 stands in
-//! vectors.rs, row 4 of a day's weight in starred.rs.
+//! Section "If a call declines": rows 1 to 11 and 13, the order of the checks, the memory after; row 14 of change request
+//! K1. Row 12 stands in vectors.rs, row 4 of a day's weight in starred.rs.
 
 use model::account::{cut, open, reading, uncut, withdraw};
 use model::casefile::{program, read};
@@ -41,16 +41,24 @@ fn the_chooser() {
 
 #[test]
 fn weights_of_a_span() {
-    for (profile, weekday, means, length, answer) in [
-        (10, 7, vec![4_000; 3], 0, refused(3)),
-        (10, 7, vec![4_000; 1_100], 1_097, refused(3)),
-        (10, 7, vec![4_000; 5], 1, refused(3)),
-        (10, 7, vec![4_000; 5], 2, refused(1)),
-        (0, 7, vec![4_000; 5], 2, refused(2)),
-        (0, 6, vec![0, -5_000, 0, 0, -5_001], 2, refused_at(4, 4)),
+    for (profile, weekday, means, calendar, length, answer) in [
+        (10, 7, vec![4_000; 3], vec![], 0, refused(3)),
+        (10, 7, vec![4_000; 1_100], vec![8; 1_097], 1_097, refused(3)),
+        (10, 7, vec![4_000; 5], vec![8; 2], 1, refused(3)),
+        (10, 7, vec![4_000; 5], vec![8; 1], 2, refused(3)),
+        (10, 7, vec![4_000; 5], vec![8; 5], 2, refused(3)),
+        (10, 7, vec![4_000; 5], vec![8; 2], 2, refused(1)),
+        (0, 7, vec![4_000; 5], vec![8; 2], 2, refused(2)),
+        (0, 6, vec![0, -5_000, 0, 0, -5_001], vec![8; 2], 2, refused_at(4, 4)),
+        (7, 3, vec![1_000; 6], vec![7; 4], 3, refused(3)),
+        (7, 3, vec![1_000; 6], vec![], 3, refused(3)),
+        (7, 7, vec![1_000; 6], vec![0, 1, 2], 3, refused(2)),
+        (7, 3, vec![1_000, 1_000, 1_000, 1_000, 1_000, 4_000], vec![8, 7, 7], 3, refused_at(4, 5)),
+        (7, 3, vec![1_000; 6], vec![7, 8, 9], 3, refused_at(14, 1)),
+        (7, 3, vec![1_000; 6], vec![0, 6, 255], 3, refused_at(14, 2)),
     ] {
         let mut out = vec![9; length];
-        assert_eq!(weights(profile, weekday, &means, &mut out), answer);
+        assert_eq!(weights(profile, weekday, &means, &calendar, &mut out), answer);
         assert_eq!(out, vec![if answer.number == 3 { 9 } else { 0 }; length]);
     }
 }

@@ -1,8 +1,9 @@
-//! Sections "Temperature of a day" to "Case file": rules that no other test of the model holds fast.
+//! Sections "Temperature of a day" to "Case file", and change request K1: rules that no other test of the model holds fast.
 
 use model::account::reading;
 use model::casefile::{program, read};
 use model::history::{Call, Standing};
+use model::profile::PROFILES;
 use model::statement::statement;
 use model::value::{day_weight, value, weights};
 use model::{refused, DONE};
@@ -11,12 +12,39 @@ use model::{refused, DONE};
 #[test]
 fn a_span_of_unequal_days() {
     let mut out = [0; 5];
-    assert_eq!(weights(7, 4, &[100, -700, 1_300, 250, -1_800, 0, 3_999, 1_200], &mut out), DONE);
+    assert_eq!(weights(7, 4, &[100, -700, 1_300, 250, -1_800, 0, 3_999, 1_200], &[7; 5], &mut out), DONE);
     assert_eq!(out, [1_237_421, 615_809, 1_161_105, 953_109, 1_010_805]);
     let mut out = [0; 2];
-    assert_eq!(weights(3, 6, &[-500, 0, 250, 1_000, 700], &mut out), DONE);
+    assert_eq!(weights(3, 6, &[-500, 0, 250, 1_000, 700], &[7; 2], &mut out), DONE);
     assert_eq!(out, [1_190_996, 1_171_671]);
     assert_eq!((day_weight(7, 4, 700), day_weight(7, 5, 700)), ((DONE, 1_164_880), (DONE, 495_702)));
+}
+
+/// Change request K1: a byte names the weekday that its own day counts as, and changes no other day; 7 keeps the day's
+/// own. A single day's weight takes its weekday from the caller.
+#[test]
+fn days_that_count_as_others() {
+    let own = [1_098_712, 1_103_454, 469_563];
+    for (calendar, expected) in [
+        ([7, 7, 7], own),
+        ([3, 4, 5], own),
+        ([6, 7, 7], [925_674, 1_103_454, 469_563]),
+        ([0, 7, 7], [1_049_840, 1_103_454, 469_563]),
+    ] {
+        let mut out = [9; 3];
+        assert_eq!(weights(7, 3, &[1_000; 6], &calendar, &mut out), DONE);
+        assert_eq!(out, expected);
+    }
+    for k in 0..3 {
+        for (byte, factor) in PROFILES[7].factors.iter().enumerate() {
+            let (mut calendar, mut expected, mut out) = ([7; 3], own, [9; 3]);
+            calendar[k] = byte as u8;
+            expected[k] = (967_772_920 * factor / 10_000_000) as u32;
+            assert_eq!(weights(7, 3, &[1_000; 6], &calendar, &mut out), DONE);
+            assert_eq!(out, expected);
+        }
+    }
+    assert_eq!(day_weight(7, 7, 1_000), (refused(2), 0));
 }
 
 /// Section "Profile value": the cold and the warm side, low and high.

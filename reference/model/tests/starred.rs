@@ -1,4 +1,5 @@
-//! Section "Starred cases": every starred line and the line "By program"; section "Case file": its example.
+//! Section "Starred cases": every starred line and the line "By program"; section "Case file": its example; change
+//! request K1: its bakery.
 
 use model::account::{cut, open, reading};
 use model::casefile::{program, read};
@@ -44,9 +45,9 @@ fn the_warmest_mean() {
     assert_eq!(value(0, 4_000), (refused_at(4, 0), 0, 0));
     assert_eq!(day_weight(0, 0, 3_999).0, DONE);
     assert_eq!(day_weight(0, 0, 4_000), (refused_at(4, 0), 0));
-    assert_eq!(weights(0, 0, &[3_999; 4], &mut [0]), DONE);
+    assert_eq!(weights(0, 0, &[3_999; 4], &[7], &mut [0]), DONE);
     let mut out = [9];
-    assert_eq!(weights(0, 0, &[3_999, 3_999, 4_000, 4_000], &mut out), refused_at(4, 2));
+    assert_eq!(weights(0, 0, &[3_999, 3_999, 4_000, 4_000], &[7], &mut out), refused_at(4, 2));
     assert_eq!(out, [0]);
 }
 
@@ -70,6 +71,16 @@ fn splits() {
     assert_eq!(split(&[7, 7], 5, 5), [0, 0]);
     let top = u64::MAX;
     assert_eq!(split(&[1_000, 1_000, 1_000], top - 100, top), [33, 34, 33]);
+}
+
+/// "A bakery's weights on a Thursday holiday were a working day's": the working day, and the holiday as a Sunday.
+#[test]
+fn a_holiday() {
+    for (calendar, parts) in [([7, 7, 7], [411, 413, 176]), ([6, 7, 7], [370, 442, 188])] {
+        let mut out = [9; 3];
+        assert_eq!(weights(7, 3, &[1_000; 6], &calendar, &mut out), DONE);
+        assert_eq!(split(&out, 0, 1_000), parts);
+    }
 }
 
 #[test]

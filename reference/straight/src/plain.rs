@@ -5,8 +5,8 @@ use crate::{HEAVIEST, LONGEST, MOST_ENERGY};
 use model::{refused, refused_at, Answer, Mean, ProfileNumber, Weekday, DONE};
 use std::fmt::Write;
 
-pub fn weights(profile: ProfileNumber, weekday: Weekday, means: &[Mean], out: &mut [u32]) -> Answer {
-    crate::weights::weights::<Standard>(profile, weekday, means, out)
+pub fn weights(profile: ProfileNumber, weekday: Weekday, means: &[Mean], calendar: &[u8], out: &mut [u32]) -> Answer {
+    crate::weights::weights::<Standard>(profile, weekday, means, calendar, out)
 }
 
 fn fit(weights: &[u32], marks: &[u8], counts: &[u64]) -> bool {
@@ -188,7 +188,8 @@ pub fn read(file: &[u8], weights: &mut [u32], marks: &mut [u8], counts: &mut [u6
         Err(answer) => return (answer, 0),
     };
     let n = case.means.len() - 3;
-    self::weights(case.profile as ProfileNumber, case.weekday as Weekday, &case.means, &mut weights[..n]);
+    let own_days = [7; LONGEST];
+    self::weights(case.profile, case.weekday, &case.means, &own_days[..n], &mut weights[..n]);
     for (k, count) in case.readings {
         marks[k] = 2;
         counts[k] = count;

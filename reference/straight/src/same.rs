@@ -4,8 +4,8 @@ use crate::weights::Newton;
 use crate::{HEAVIEST, LONGEST, MOST_ENERGY};
 use model::{refused, refused_at, Answer, Mean, ProfileNumber, Weekday, DONE};
 
-pub fn weights(profile: ProfileNumber, weekday: Weekday, means: &[Mean], out: &mut [u32]) -> Answer {
-    crate::weights::weights::<Newton>(profile, weekday, means, out)
+pub fn weights(profile: ProfileNumber, weekday: Weekday, means: &[Mean], calendar: &[u8], out: &mut [u32]) -> Answer {
+    crate::weights::weights::<Newton>(profile, weekday, means, calendar, out)
 }
 
 fn is_reading(mark: u8) -> bool {
@@ -321,7 +321,8 @@ impl Reader<'_> {
         let mut means = [0; 1_099];
         let count = self.means(&mut means)?;
         let n = count - 3;
-        self::weights(profile, weekday, &means[..count], &mut weights[..n]);
+        let own_days = [7; LONGEST];
+        self::weights(profile, weekday, &means[..count], &own_days[..n], &mut weights[..n]);
         self.readings(n, marks, counts)?;
         self.cuts(n, marks)?;
         if self.at < self.file.len() {

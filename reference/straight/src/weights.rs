@@ -85,9 +85,15 @@ fn low_value<R: Root>(profile: &Profile, t: i64) -> i64 {
 }
 
 /// The weights of the days of a series.
-pub fn weights<R: Root>(profile: ProfileNumber, weekday: Weekday, means: &[Mean], out: &mut [u32]) -> Answer {
+pub fn weights<R: Root>(
+    profile: ProfileNumber,
+    weekday: Weekday,
+    means: &[Mean],
+    calendar: &[u8],
+    out: &mut [u32],
+) -> Answer {
     let n = means.len().wrapping_sub(3);
-    if n < 1 || n > crate::LONGEST || out.len() != n {
+    if n < 1 || n > crate::LONGEST || calendar.len() != n || out.len() != n {
         return refused(3);
     }
     if profile > 9 || weekday > 6 {
@@ -98,13 +104,16 @@ pub fn weights<R: Root>(profile: ProfileNumber, weekday: Weekday, means: &[Mean]
         out.fill(0);
         return refused_at(4, index);
     }
+    if let Some(index) = calendar.iter().position(|byte| *byte > 7) {
+        out.fill(0);
+        return refused_at(14, index);
+    }
     let profile = &PROFILES[profile as usize];
-    let mut day = weekday as usize;
-    for (weight, four) in out.iter_mut().zip(means.windows(4)) {
+    for (k, (weight, four)) in out.iter_mut().zip(means.windows(4)).enumerate() {
         let sum = 8 * four[3] as i64 + 4 * four[2] as i64 + 2 * four[1] as i64 + four[0] as i64;
         let t = (2 * sum + 15).div_euclid(30);
+        let day = if calendar[k] < 7 { calendar[k] as usize } else { (weekday as usize + k) % 7 };
         *weight = (low_value::<R>(profile, t) * profile.factors[day] / 10_000_000) as u32;
-        day = if day == 6 { 0 } else { day + 1 };
     }
     DONE
 }

@@ -105,7 +105,7 @@ struct Account {
 /// An account from day `first` on with a reading at both ends and every `every` days, and these cuts.
 fn account(first: usize, n: usize, every: usize, cuts: &[usize]) -> Account {
     let mut weights = vec![0; n];
-    PLAIN.weights(0, 0, &means(first, n), &mut weights);
+    PLAIN.weights(0, 0, &means(first, n), &vec![7; n], &mut weights);
     let (mut marks, mut counts) = (vec![0; n + 1], vec![0; n + 1]);
     for k in (0..=n).filter(|k| *k == n || k % every == 0) {
         marks[k] = 2;
@@ -116,9 +116,9 @@ fn account(first: usize, n: usize, every: usize, cuts: &[usize]) -> Account {
 }
 
 fn run_weights(library: &'static dyn Library, profile: ProfileNumber, first: usize, n: usize) -> Runner<'static> {
-    let (means, mut out) = (means(first, n), vec![0; n]);
+    let (means, own_days, mut out) = (means(first, n), vec![7; n], vec![0; n]);
     Box::new(move || {
-        let answer = library.weights(black_box(profile), 3, black_box(&means), &mut out);
+        let answer = library.weights(black_box(profile), 3, black_box(&means), black_box(&own_days), &mut out);
         assert_eq!(black_box(answer).number, 0);
     })
 }

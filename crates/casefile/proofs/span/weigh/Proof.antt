@@ -12,11 +12,17 @@ add-weights c = search needs
 slice-aggregate-weights : tie.Need-slice-aggregate-weights
 slice-aggregate-weights c = simp length-take (omega arith)
 
-slice-relend-prefix-weights : tie.Need-slice-relend-prefix-weights
-slice-relend-prefix-weights c = omega arith
+array-share-prefix-own : tie.Need-array-share-prefix-own
+array-share-prefix-own c = omega arith
 
 slice-aggregate-weights-2 : tie.Need-slice-aggregate-weights-2
 slice-aggregate-weights-2 c = simp length-take (omega arith)
+
+slice-relend-prefix-weights : tie.Need-slice-relend-prefix-weights
+slice-relend-prefix-weights c = omega arith
+
+slice-aggregate-weights-3 : tie.Need-slice-aggregate-weights-3
+slice-aggregate-weights-3 c = simp length-take (omega arith)
 
 weights-requires : tie.Need-weights-requires
 weights-requires c κs = search needs
@@ -25,7 +31,7 @@ same-length : tie.Need-same-length
 same-length c = search needs
 
 returns : tie.Need-returns
-returns c = weighs (c .before .before .before .before .before .before .pre) (c .before .before .weights .ensures)
+returns c = weighs (c .before .before .before .before .before .before .before .pre) (c .before .before .weights .ensures)
 
 pub weigh-spec : {M : Type 1} → statement M
 weigh-spec =
@@ -33,8 +39,10 @@ weigh-spec =
     (tie.spec
     add-weights
     slice-aggregate-weights
-    slice-relend-prefix-weights
+    array-share-prefix-own
     slice-aggregate-weights-2
+    slice-relend-prefix-weights
+    slice-aggregate-weights-3
     weights-requires
     same-length
     returns)

@@ -42,6 +42,12 @@ enum-known-answer c = search needs
 outcome-requires-5 : tie.Need-outcome-requires-5
 outcome-requires-5 c κs = search needs
 
+enum-known-answer-2 : tie.Need-enum-known-answer-2
+enum-known-answer-2 c = search needs
+
+outcome-requires-6 : tie.Need-outcome-requires-6
+outcome-requires-6 c κs = search needs
+
 returns : tie.Need-returns
 returns c = c .outcome .ensures ∙ sym (ap tells (c .before .enum-told .given .1))
 
@@ -57,6 +63,9 @@ returns-4 c = c .outcome4 .ensures ∙ sym (ap tells (c .before .enum-told4 .giv
 returns-5 : tie.Need-returns-5
 returns-5 c = c .outcome5 .ensures ∙ sym (ap tells (c .before .before .answer .given .1))
 
+returns-6 : tie.Need-returns-6
+returns-6 c = c .outcome6 .ensures ∙ sym (ap tells (c .before .before .answer2 .given .1))
+
 pub weights-spec : {M : Type 1} → statement M
 weights-spec =
-    tie.close (tie.spec enum-told outcome-requires enum-told-2 outcome-requires-2 enum-told-3 outcome-requires-3 enum-told-4 outcome-requires-4 enum-known-answer outcome-requires-5 returns returns-2 returns-3 returns-4 returns-5)
+    tie.close (tie.spec enum-told outcome-requires enum-told-2 outcome-requires-2 enum-told-3 outcome-requires-3 enum-told-4 outcome-requires-4 enum-known-answer outcome-requires-5 enum-known-answer-2 outcome-requires-6 returns returns-2 returns-3 returns-4 returns-5 returns-6)

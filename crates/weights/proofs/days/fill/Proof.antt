@@ -1,8 +1,8 @@
--- `weights::days::fill` meets its contract (Temperature of a day): the elements passed are the weights of the days passed.
+-- `weights::days::fill` meets its contract (Temperature of a day, K1): the elements passed are the weights of the days passed.
 -- Assumes nothing.
 use borrow.Author.Needs.{needs, sfits-of}
-use mathlib.Core.Path.{_≡_, _∙_, ap}
-use Prim.Native.Nat.{_+_, _-_, _%_}
+use mathlib.Core.Path.{_≡_, _∙_, ap, ap₂}
+use Prim.Native.Nat.{_-_}
 use native.Mathlib.Omega.{arith}
 use lib.ListN.{length}
 use mir.Syntax.{w16}
@@ -12,15 +12,16 @@ use Rattle.profile.specs.Limits.{inRange}
 use Rattle.profile.specs.Weight.{weightOf}
 use Rattle.weights.specs.Weights.{dayWeight, weightsOf}
 use Rattle.weights.proofs.Filled.{Filled, start, step, done}
+use Rattle.weights.proofs.Calendar.{day-known}
 use Rattle.weights.proofs.Span.{weights-length, weights-at}
 use Rattle.weights.proofs.days.fill.Statement.{statement}
 use Rattle.weights.proofs.days.fill.Tie as tie
 
 abbrev Inv-loop : tie.InvT-loop
-Inv-loop number weekday means out₀ k₀ out k = Filled (dayWeight number weekday means) (length out₀) out k
+Inv-loop number weekday means calendar out₀ k₀ out k = Filled (dayWeight number weekday means calendar) (length out₀) out k
 
 abbrev μ-loop : tie.MeasureT-loop
-μ-loop number weekday means out₀ k₀ out k = length out₀ - k
+μ-loop number weekday means calendar out₀ k₀ out k = length out₀ - k
 
 loop-holds : tie.Need-loop-holds Inv-loop μ-loop
 loop-holds c = start _ _
@@ -30,18 +31,16 @@ as-given : (c : tie.After-temperature-of Inv-loop μ-loop) → toZ w16 (ofZ w16 
 as-given c = toZ-ofZ {w = w16} (sfits-of (c .temperature-of .ok))
 
 temperature-of-requires : tie.Need-temperature-of-requires Inv-loop μ-loop
-temperature-of-requires c κs = (c .before .before .before .pre .0 .means-in-range, omega arith)
+temperature-of-requires c κs = (c .before .before .before .before .pre .0 .means-in-range, omega arith)
 
-add-day : tie.Need-add-day Inv-loop μ-loop
-add-day c = omega arith
-
-cast-weight-at : tie.Need-cast-weight-at Inv-loop μ-loop
-cast-weight-at c = omega arith
+counts-as-requires : tie.Need-counts-as-requires Inv-loop μ-loop
+counts-as-requires c κs = (c .before .before .before .before .before .pre .0 .weekday-known, omega arith)
 
 weight-at-requires : tie.Need-weight-at-requires Inv-loop μ-loop
 weight-at-requires c κs =
-    let s = c .before .before .before .before in
-    (s .pre .0 .profile-known, omega arith, ap inRange (as-given c) ∙ c .temperature-of .ensures .1)
+    let s = c .before .before .before .before .before .before in
+    let day = day-known (s .args .weekday) (s .args .calendar .now) (c .before .before .before .loop .k) in
+    (s .pre .0 .profile-known, omega (arith, day), ap inRange (as-given (c .before)) ∙ c .before .temperature-of .ensures .1)
 
 mul-out : tie.Need-mul-out Inv-loop μ-loop
 mul-out c = search needs
@@ -57,23 +56,24 @@ loop-less c = omega arith
 
 loop-again : tie.Need-loop-again Inv-loop μ-loop
 loop-again c =
-    let a = c .before .before .before in
-    let day = (a .before .before .args .weekday + a .loop .k) % 7 in
+    let a = c .before .before .before .before in
+    let number = a .before .before .before .args .profile in
     step _ (a .loop .inv) (omega arith)
-    (c .weight-at .ensures ∙ ap (weightOf (a .before .before .args .profile) day) (as-given (c .before) ∙ c .before .temperature-of .ensures .0))
+    (c .weight-at .ensures ∙ ap₂ (weightOf number) (c .before .counts-as .ensures) (as-given (c .before .before) ∙ c .before .before .temperature-of .ensures .0))
 
 same-length : tie.Need-same-length Inv-loop μ-loop
 same-length c = c .before .loop .inv .long
 
 returns : tie.Need-returns Inv-loop μ-loop
 returns c =
-    let s = c .before .before .before in
+    let s = c .before .before .before .before in
     let number = s .args .profile in
     let weekday = s .args .weekday in
     let means = s .args .means .now in
-    done (c .before .loop .inv) (omega arith) (weightsOf number weekday means)
-    (weights-length number weekday means ∙ omega arith)
-    (λ j h. weights-at number weekday means j (omega arith))
+    let calendar = s .args .calendar .now in
+    done (c .before .loop .inv) (omega arith) (weightsOf number weekday means calendar)
+    (weights-length number weekday means calendar ∙ omega arith)
+    (λ j h. weights-at number weekday means calendar j (omega arith))
 
 pub fill-spec : {M : Type 1} → statement M
 fill-spec =
@@ -83,8 +83,7 @@ fill-spec =
     μ-loop
     loop-holds
     temperature-of-requires
-    add-day
-    cast-weight-at
+    counts-as-requires
     weight-at-requires
     mul-out
     slice-write-out
