@@ -37,7 +37,7 @@ pub items-asked : {s : List ℕ} {at count number n : ℕ} → Goes s at number 
 items-asked g z l c = record { counted = c .0; few = c .1; near = l; span = g .span z }
 
 -- items without a fault end within the file
-items-end : (width : ℕ) (s : List ℕ) (at : ℕ) (item : ℕ → Fault) → ((i : ℕ) → item i ≡ noFault → itemAt width at i + width ≤ length s) → at + 2 ≤ length s
+pub items-end : (width : ℕ) (s : List ℕ) (at : ℕ) (item : ℕ → Fault) → ((i : ℕ) → item i ≡ noFault → itemAt width at i + width ≤ length s) → at + 2 ≤ length s
     → (i : ℕ) → firstFault item i ≡ noFault → itemAt width at i ≤ length s
 items-end width s at item long l zero e = omega arith
 items-end width s at item long l (suc i) e = simp mul-suc (omega (arith, long i (none-before item (suc i) i (omega arith) e)))

@@ -11,6 +11,7 @@ pub mod Answered
 pub mod Ordered
 pub mod Sound
 pub mod Agreed
+pub mod Taken
 pub mod Held
 pub mod Again
 pub mod LongestTaken

@@ -111,7 +111,7 @@ long = listOf-length content fileMost
 
 has : (i : ℕ) → i < 15370 → getD file i 0 ≡ content i
 unfolding file
-has i l = listOf-at content fileMost i l
+has i l = listOf-at 0 content fileMost i l
 
 -- a number from its two bytes, and one whose bytes are all 0
 pair : (at x : ℕ) → at + 1 < 15370 → content at ≡ x % 256 → content (at + 1) ≡ x / 256 → number16 file at ≡ x

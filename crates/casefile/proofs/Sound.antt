@@ -8,11 +8,10 @@ use native.Mathlib.Omega.{arith}
 use native.Mathlib.Nat.{le-refl}
 use borrow.Author.Tests.{ltb-false, le-ltb, le-leb, eq-eqb, eqb-true}
 use lib.Dec.{ltb, eqb}
-use lib.ListN.{length, getD, length-replicate}
-use Rattle.profile.specs.Limits.{weightLeast, weightMost, spanMost}
-use Rattle.weights.specs.Weights.{weightsOf, Ready}
+use lib.ListN.{length, length-replicate}
+use Rattle.profile.specs.Limits.{spanMost}
+use Rattle.weights.specs.Weights.{weightsOf}
 use Rattle.weights.proofs.Span.{weights-length}
-use Rattle.weights.proofs.Table.{weights-bounded}
 use Rattle.common.specs.Below.{somewhere}
 use Rattle.account.specs.Stands.{Stands, nothing}
 use Rattle.account.specs.Account.{Account, days, shown, unfit, goodWeights, energyMost}
@@ -20,7 +19,6 @@ use Rattle.common.specs.Rows.{row}
 use Rattle.account.specs.Refusals.{readingRows, readingNumber, cutRows, cutNumber}
 use Rattle.account.specs.Calls.{cleared}
 use Rattle.common.proofs.Below.{clash, refuted, none-at}
-use Rattle.common.proofs.Below.{every-is}
 use Rattle.account.proofs.Sound.{sound-parts}
 use Rattle.account.specs.Slices.{Checked}
 use Rattle.account.proofs.Rows.{rows-through}
@@ -33,7 +31,7 @@ use Rattle.casefile.proofs.Faults.{number-of, number-before, none-both,
 use Rattle.casefile.proofs.Kept.{Kept, kept-on, readings-kept, cuts-kept, uncut}
 use Rattle.casefile.proofs.Items.{above, before, sane, SaneReading, sane-reading}
 use Rattle.casefile.proofs.Ordered.{risen, Orderly, more, reading-rows}
-use Rattle.casefile.proofs.Weighing.{means-in, means-length}
+use Rattle.casefile.proofs.Weighing.{means-in, means-length, weights-good}
 use Rattle.casefile.proofs.Chained.{span-of, clean-of}
 
 -- counts do not fall
@@ -123,14 +121,9 @@ module _ {a : Account} {s : List ℕ} {at n : ℕ} (long : days a ≡ n) where
 
 -- the account of the layout: over good weights, and for n days
 span-weights : (s : List ℕ) → spanFault s ≡ noFault → goodWeights (weightsOf (profileByte s) (weekdayByte s) (meansOf s) (calendarOf s)) ≡ true
-unfolding goodWeights
 span-weights s e =
     let c = span-of s 0 e in
-    let ready : Ready (profileByte s) (weekdayByte s) (meansOf s) =
-    record { profile-known = omega (arith, c .first .profile-known); weekday-known = omega (arith, c .first .weekday-known); means-in-range = means-in s 2 (meansLength s) (c .means) } in
-    every-is _ _ λ d l.
-    let w = weights-bounded (profileByte s) (weekdayByte s) (meansOf s) (calendarOf s) ready d (omega (arith, weights-length (profileByte s) (weekdayByte s) (meansOf s) (calendarOf s))) in
-    simp (le-leb weightLeast (getD (weightsOf (profileByte s) (weekdayByte s) (meansOf s) (calendarOf s)) d 0) (w .0), le-leb (getD (weightsOf (profileByte s) (weekdayByte s) (meansOf s) (calendarOf s)) d 0) weightMost (w .1))
+    weights-good _ _ _ _ (record { profile-known = omega (arith, c .first .profile-known); weekday-known = omega (arith, c .first .weekday-known); means-in-range = means-in s 2 (meansLength s) (c .means) })
 
 empty-days : (s : List ℕ) → days (emptyCase s) ≡ daysOf s
 empty-days s = weights-length (profileByte s) (weekdayByte s) (meansOf s) (calendarOf s) ∙ ap (λ (n : ℕ). n - 3) (means-length s 2 (meansLength s))

@@ -7,17 +7,19 @@ use native.Mathlib.Omega.{arith}
 use borrow.Author.Tests.{ltb-true, ltb-false, leb-true, leb-false, lt-ltb, le-ltb, le-leb, lt-leb, eq-eqb, not-false}
 use lib.Dec.{ltb, leb, leb·suc-suc}
 use lib.IntN.{ℤ}
-use lib.ListN.{length, take, drop, replicate, length-drop, length-replicate, getD-replicate, replicate-append-replicate}
-use lib.Seq.{ext-getD, getD-drop, length-take-le, take-at}
-use Rattle.profile.specs.Limits.{inRange, spanMost, profileCount, badSpan}
-use Rattle.common.proofs.Below.{both}
+use lib.ListN.{length, take, drop, getD, replicate, length-drop, length-replicate, getD-replicate}
+use lib.Seq.{ext-getD, getD-drop, length-take-le}
+use Rattle.profile.specs.Limits.{inRange, spanMost, profileCount, badSpan, weightLeast, weightMost}
+use Rattle.common.proofs.Below.{both, every-is}
 use Rattle.common.specs.Rows.{filled}
 use Rattle.weights.specs.Means.{firstOut, someOut}
 use Rattle.common.specs.Lists.{listOf}
-use Rattle.weights.specs.Weights.{weightsOf, WeightsMet}
-use Rattle.common.proofs.Lists.{listOf-length}
+use Rattle.weights.specs.Weights.{weightsOf, Ready, WeightsMet}
+use Rattle.common.proofs.Lists.{listOf-length, take-replicate}
 use Rattle.weights.proofs.Calendar.{own-named}
 use Rattle.weights.proofs.Span.{weights-length}
+use Rattle.weights.proofs.Table.{weights-bounded}
+use Rattle.account.specs.Account.{goodWeights}
 use Rattle.casefile.specs.Bytes.{byte, number16}
 use Rattle.casefile.specs.Case.{itemAt, meanAt, meansAt}
 use Rattle.casefile.specs.Faults.{noFault, _before_, fault, firstFault, firstBytesFault, meansCountFault, meanFaultAt}
@@ -100,11 +102,13 @@ drop-zeros k n = ext-getD 0 (drop k (replicate n 0)) (replicate (n - k) 0) (simp
     let h : i < n - k = rw (length-drop, length-replicate) at l in
     rw (getD-drop, getD-replicate {A = ℕ} n (k + i) 0 0 (omega arith), getD-replicate {A = ℕ} (n - k) i 0 0 h)
 
-first-sevens : (k n : ℕ) → k ≤ n → take k (replicate {A = ℕ} n 7) ≡ replicate k 7
-first-sevens k n h =
-    let all : n ≡ k + (n - k) = omega arith in
-    ap (take k) (ap (λ (m : ℕ). replicate m 7) all ∙ sym (replicate-append-replicate k (n - k) 7))
-    ∙ take-at (replicate k 7) (replicate (n - k) 7) k (length-replicate k 7)
+-- weights of means that rows 1, 2 and 4 let pass are an account's
+pub weights-good : (profile weekday : ℕ) (means : List ℤ) (calendar : List ℕ) → Ready profile weekday means → goodWeights (weightsOf profile weekday means calendar) ≡ true
+unfolding goodWeights
+weights-good profile weekday means calendar r = every-is _ _ λ d l.
+    let x = getD (weightsOf profile weekday means calendar) d 0 in
+    let b = weights-bounded profile weekday means calendar r d (omega (arith, weights-length profile weekday means calendar)) in
+    simp (le-leb weightLeast x (b .0), le-leb x weightMost (b .1))
 
 -- the weights call does what it is asked, and leaves the rest zero
 pub weighs : {profile weekday days : ℕ} {means meansAfter : List ℤ} {lent after calendarAfter : List ℕ} {answered placed : ℕ} → Weighable profile weekday means days lent
@@ -114,7 +118,7 @@ weighs {profile} {weekday} {days} {means} {lent} {after} w m =
     let enough : length (take (days + 3) means) ≡ days + 3 = length-take-le (days + 3) means (w .enough) in
     let room : length (take days lent) ≡ days = length-take-le days lent (omega (arith, w .clear .long)) in
     let n = length (take (days + 3) means) - 3 in
-    let own = first-sevens days spanMost (w .most) in
+    let own = take-replicate 7 days spanMost (w .most) in
     let listed = length-replicate {A = ℕ} days 7 in
     let full : after ≡ weightsOf profile weekday (take (days + 3) means) (replicate days 7) =
     rw own at (m .writes) ∙ simp (le-leb 1 n (omega arith), le-leb n spanMost (omega arith), eq-eqb (length (take days lent)) n (omega arith), eq-eqb (length (replicate {A = ℕ} days 7)) n (omega arith), lt-leb profileCount profile (omega arith), le-ltb 6 weekday (omega arith), w .means-in-range, own-named days) in

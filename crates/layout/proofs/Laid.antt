@@ -1,20 +1,14 @@
 -- Texts laid out (Case file, the program's output): two one after the other are their joined text. Assumes nothing.
 use mathlib.Core.Path.{_≡_, refl, ap, _∙_}
-use mathlib.Core.List.{List, [], _∷_, _++_, append-assoc}
-use Prim.Native.Nat.{ℕ, suc, _+_}
-use native.Mathlib.Nat.{add-zero}
+use mathlib.Core.List.{List, _++_, append-assoc}
+use Prim.Native.Nat.{ℕ, _+_}
 use native.Mathlib.Omega.{arith}
-use lib.ListN.{length, set, length-append}
+use lib.ListN.{length, length-append}
 use lib.Seq.{sets}
 use mathlib.Core.Bool.{true, false}
+use Rattle.common.proofs.Lists.{sets-append}
 use Rattle.statement.specs.Parts.{Outputs}
 use Rattle.layout.specs.Text.{LaidOut, TextMet, noStatement, statementText, partsText}
-
-sets-append : (o : List ℕ) (at : ℕ) (xs ys : List ℕ) → sets (sets o at xs) (at + length xs) ys ≡ sets o at (xs ++ ys)
-sets-append o at [] ys = rw add-zero
-sets-append o at (x ∷ xs) ys =
-    let e : at + suc (length xs) ≡ suc at + length xs = omega arith in
-    ap (λ (n : ℕ). sets (sets (set o at x) (suc at) xs) n ys) e ∙ sets-append (set o at x) (suc at) xs ys
 
 pub then-laid : {at : ℕ} {xs o : List ℕ} {m : ℕ} {p ys : List ℕ} {n : ℕ} {q : List ℕ} →
     LaidOut at xs o m p → LaidOut m ys p n q → LaidOut at (xs ++ ys) o n q

@@ -14,4 +14,4 @@ weights-length profile weekday means calendar = listOf-length _ _
 pub weights-at : (profile weekday : ℕ) (means : List ℤ) (calendar : List ℕ) (k : ℕ) → k < length means - 3
     → getD (weightsOf profile weekday means calendar) k 0 ≡ dayWeight profile weekday means calendar k
 unfolding weightsOf
-weights-at profile weekday means calendar k h = listOf-at _ _ k h
+weights-at profile weekday means calendar k h = listOf-at 0 _ _ k h
