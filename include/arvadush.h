@@ -28,6 +28,7 @@
  *   11  there are fewer than two readings
  *   12  the customer value is above 10^12
  *   13  the case file ends early, has bytes left over, or has a boundary that does not rise
+ *   15  the slice is shorter than the case file
  *
  * Account
  *   An account of n days has n weights, n + 1 marks and n + 1 counts.
@@ -231,6 +232,22 @@ arvadush_outcome arvadush_daily_amount(uint64_t value, uint32_t weight);
  */
 arvadush_outcome arvadush_read(const uint8_t *file, size_t file_len, uint32_t *weights, size_t weights_len, uint8_t *marks,
                                size_t marks_len, uint64_t *counts, size_t counts_len);
+
+/* Writes the case file of an account to the start of out. The value is the length of the file.
+ * n is means_len - 3. The means are oldest first, and day k has its own mean at index k + 3. The weekday is that of day 0.
+ * The weights of the account are not passed: they are those that the means give if each day counts as its own weekday.
+ * Of slices that arvadush_read filled, pass the first n + 1 marks and the first n + 1 counts.
+ * Bytes of out past the file stay as they were. The longest file has 15,370 bytes, so ARVADUSH_FILE bytes are room for any file.
+ * Refused, in this order:
+ *   3  n is outside 1 to 1,096, or marks or counts are not n + 1 long
+ *   1  the profile is above 9; all of out is then zero
+ *   2  the weekday is above 6; all of out is then zero
+ *   4  a mean is out of range (place: the index of the first such mean, and no offset in the file); all of out is then zero
+ *   5  the account is unsound
+ *  15  out is shorter than the file
+ */
+arvadush_outcome arvadush_write(uint8_t profile, uint8_t weekday, const int16_t *means, size_t means_len, const uint8_t *marks,
+                                size_t marks_len, const uint64_t *counts, size_t counts_len, uint8_t *out, size_t out_len);
 
 /* Writes the printed statement of so many parts to the start of out.
  * Returns the length of the whole text. If this is above out_len, only the first out_len bytes are written.

@@ -1,9 +1,8 @@
 /* The console: takes calls on an account from standard input, one a line, and answers each (Account and its calls). */
 #include "arvadush.h"
+#include "streams.h"
 
 #include <stdbool.h>
-#include <stdio.h>
-#include <stdlib.h>
 #include <string.h>
 
 static const char HELP[] =
@@ -48,19 +47,7 @@ static account *current = &accounts[0], *spare = &accounts[1];
 
 static uint8_t out[ARVADUSH_TEXT];
 
-static void fail(const char *what)
-{
-    perror(what);
-    exit(2);
-}
-
 /* ---- Answers */
-
-static void print(const void *bytes, size_t length)
-{
-    if (fwrite(bytes, 1, length, stdout) != length || fflush(stdout) != 0)
-        fail("standard output");
-}
 
 static void print_answer(uint8_t number, size_t place)
 {

@@ -1,7 +1,6 @@
 /* Reads a case file from standard input, or from the file named as argument, and prints its statement or its refusal (Case file). */
 #include "arvadush.h"
-
-#include <stdio.h>
+#include "streams.h"
 
 static uint8_t file[ARVADUSH_FILE];
 static uint32_t weights[ARVADUSH_DAYS];
@@ -13,17 +12,7 @@ static uint8_t text[ARVADUSH_TEXT];
 
 int main(int argc, char **argv)
 {
-    FILE *in = argc > 1 ? fopen(argv[1], "rb") : stdin;
-    if (in == NULL) {
-        perror(argv[1]);
-        return 2;
-    }
-    size_t length = fread(file, 1, sizeof file, in);
-    if (ferror(in)) {
-        perror(argc > 1 ? argv[1] : "standard input");
-        return 2;
-    }
-
+    size_t length = read_input(argc, argv, file, sizeof file);
     size_t n = 0, parts = 0;
     arvadush_outcome outcome =
         arvadush_read(file, length, weights, ARVADUSH_DAYS, marks, ARVADUSH_BOUNDARIES, counts, ARVADUSH_BOUNDARIES);
@@ -32,11 +21,7 @@ int main(int argc, char **argv)
         outcome = arvadush_statement(weights, n, marks, n + 1, counts, n + 1, from, n, to, n, wh, n);
         parts = outcome.value;
     }
-    size_t written = outcome.number == 0 ? arvadush_statement_text(from, n, to, n, wh, n, parts, text, ARVADUSH_TEXT)
-                                         : arvadush_refusal_text(outcome.number, outcome.place, text, ARVADUSH_TEXT);
-    if (fwrite(text, 1, written, stdout) != written || fflush(stdout) != 0) {
-        perror("standard output");
-        return 2;
-    }
+    print(text, outcome.number == 0 ? arvadush_statement_text(from, n, to, n, wh, n, parts, text, ARVADUSH_TEXT)
+                                    : arvadush_refusal_text(outcome.number, outcome.place, text, ARVADUSH_TEXT));
     return outcome.number == 0 ? 0 : 1;
 }

@@ -19,6 +19,7 @@ ghost use Rattle.statement.specs.Parts.{outputsIn};
 ghost use Rattle.statement.specs.Call.{StatementMet};
 ghost use Rattle.customer.specs.Customer.{CustomerMet, AmountMet};
 ghost use Rattle.casefile.specs.Reader.{ReadMet};
+ghost use Rattle.casewriter.specs.Writer.{WriteMet};
 ghost use Rattle.layout.specs.Text.{LaidOut, TextMet, statementText, refusalText};
 ghost use Rattle.ffi.specs.Calls.{ChooseReturned};
 
@@ -221,6 +222,21 @@ pub extern "C" fn arvadush_read(
     ensures { λ r. ⌜ ReadMet (now (file .entry)) (accountIn (weights .entry) (marks .entry) (counts .entry)) (r .number) (r .place) (r .value) (accountIn (weights .exit) (marks .exit) (counts .exit)) (now (file .exit)) ⌝ }
 {
     returned::case(casefile::read_case(file, weights, marks, counts))
+}
+
+// Writes the case file of an account to the start of out; its value is the length of the file.
+#[no_mangle]
+pub extern "C" fn arvadush_write(
+    profile: u8,
+    weekday: u8,
+    means: &[i16],
+    marks: &[u8],
+    counts: &[u64],
+    out: &mut [u8],
+) -> Outcome
+    ensures { λ r. ⌜ WriteMet profile weekday (now (means .entry)) (now (marks .entry)) (now (counts .entry)) (now (out .entry)) (r .number) (r .place) (r .value) (now (out .exit)) (now (means .exit)) (now (marks .exit)) (now (counts .exit)) ⌝ }
+{
+    returned::file(casewriter::write_case(profile, weekday, means, marks, counts, out))
 }
 
 // The text of a statement of so many parts, at the start of out; the length of the whole text.

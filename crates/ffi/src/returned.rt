@@ -1,6 +1,7 @@
 // Each answer of the calls below as the paper's number (0 is done), its place and its values (If a call declines).
 use crate::Outcome;
 use casefile::CaseAnswer;
+use casewriter::WriteAnswer;
 use customer::CustomerAnswer;
 use profile::ValueAnswer;
 use profile::WeightAnswer;
@@ -15,6 +16,7 @@ ghost use Rattle.weights.specs.Weights as span;
 ghost use Rattle.statement.specs.Call as call;
 ghost use Rattle.customer.specs.Customer as customer;
 ghost use Rattle.casefile.specs.Reader as reader;
+ghost use Rattle.casewriter.specs.Writer as writer;
 
 pub(crate) fn temperature_number(answer: TemperatureAnswer) -> u8
     ensures { λ r. ⌜ r ≡ four.number answer ⌝ }
@@ -136,6 +138,15 @@ pub(crate) fn case(answer: CaseAnswer) -> Outcome
     match answer {
         CaseAnswer::Days(days) => outcome(0, 0, days as u64),
         CaseAnswer::Refused(number, place) => outcome(number, place, 0),
+    }
+}
+
+pub(crate) fn file(answer: WriteAnswer) -> Outcome
+    ensures { λ r. ⌜ r ≡ outcomeOf (writer.number answer) (writer.place answer) (writer.size answer) ⌝ }
+{
+    match answer {
+        WriteAnswer::Length(size) => outcome(0, 0, size as u64),
+        WriteAnswer::Refused(number, place) => outcome(number, place, 0),
     }
 }
 

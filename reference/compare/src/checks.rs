@@ -1,5 +1,6 @@
 //! One input of each kind, how a library is run on it, and what is compared: the answer, the values, every slice.
 
+use crate::casefiles::{Case, ReadBack, ReadCall, Rewrite, WriteCall};
 use crate::library::Library;
 use model::history::Call;
 use model::{Answer, Boundary, Mean, ProfileNumber, Weekday, DONE};
@@ -68,6 +69,12 @@ pub enum Input {
         file: File,
         slices: Account,
     },
+    Write {
+        case: Case,
+        out: File,
+    },
+    Rewrite(Rewrite),
+    ReadBack(ReadBack),
     StatementText {
         outputs: Outputs,
         parts: usize,
@@ -81,7 +88,7 @@ pub enum Input {
 }
 
 /// What a run left: the answer, the values, and every lent slice with its surroundings, widened.
-#[derive(Debug, PartialEq, Eq)]
+#[derive(Clone, Debug, PartialEq, Eq)]
 pub struct Outcome {
     pub answer: Answer,
     pub values: Vec<u64>,
@@ -139,7 +146,7 @@ impl<T: Number> Lent<T> {
         &mut self.0[GUARDS..end]
     }
 
-    fn wide(&self) -> Vec<u64> {
+    pub fn wide(&self) -> Vec<u64> {
         self.0.iter().map(|number| number.wide()).collect()
     }
 }
@@ -205,7 +212,7 @@ impl LentOutputs {
     }
 }
 
-fn of(answer: Answer, values: &[u64], slices: Vec<Vec<u64>>) -> Outcome {
+pub fn of(answer: Answer, values: &[u64], slices: Vec<Vec<u64>>) -> Outcome {
     Outcome { answer, values: values.to_vec(), slices }
 }
 
@@ -253,6 +260,9 @@ impl Input {
             Input::CustomerValue { .. } => "customer value",
             Input::DailyAmount { .. } => "daily amount",
             Input::Read { .. } => "case file",
+            Input::Write { .. } => "case file written",
+            Input::Rewrite(..) => "case file rewritten",
+            Input::ReadBack(..) => "case file read back",
             Input::StatementText { .. } => "statement text",
             Input::RefusalText { .. } => "refusal text",
         }
@@ -299,12 +309,10 @@ impl Input {
                 let (answer, amount) = library.daily_amount(*value, *weight);
                 of(answer, &[amount], vec![])
             }
-            Input::Read { file, slices } => {
-                let (file, mut slices) = (Lent::new(&file.0), LentAccount::new(slices));
-                let LentAccount { weights, marks, counts } = &mut slices;
-                let (answer, n) = library.read(file.get(), weights.get_mut(), marks.get_mut(), counts.get_mut());
-                of(answer, &[n as u64], [slices.wide(), vec![file.wide()]].concat())
-            }
+            Input::Read { file, slices } => ReadCall::new(library, file, slices).outcome(),
+            Input::Write { case, out } => WriteCall::new(library, case, out).outcome(),
+            Input::Rewrite(trip) => trip.outcome(library),
+            Input::ReadBack(trip) => trip.outcome(library),
             Input::StatementText { outputs, parts, out } => {
                 let (outputs, mut out) = (LentOutputs::new(outputs), Lent::new(out));
                 let LentOutputs { from, to, wh } = &outputs;

@@ -1,5 +1,6 @@
 //! Random inputs, good and damaged, for the calls of every section.
 
+use crate::casefiles::{Case, ReadBack, Rewrite};
 use crate::checks::{Account, File, Input, Outputs};
 use crate::random::Random;
 use model::history::Call;
@@ -29,6 +30,10 @@ fn length(random: &mut Random, right: usize) -> usize {
         4 => random.length(0, 12),
         _ => random.pick(&[1_095, 1_096, 1_097, 1_098, 1_099, 1_100]),
     }
+}
+
+fn bytes(random: &mut Random, length: usize) -> Vec<u8> {
+    (0..length).map(|_| random.next() as u8).collect()
 }
 
 fn mean(random: &mut Random) -> Mean {
@@ -273,7 +278,7 @@ fn list(random: &mut Random) -> Input {
     let n = if random.once_in(100) { random.length(11, 1_096) } else { random.length(1, 10) };
     let account = Account {
         weights: weights(random, n),
-        marks: (0..=n).map(|_| random.next() as u8).collect(),
+        marks: bytes(random, n + 1),
         counts: (0..=n).map(|_| random.next()).collect(),
     };
     Input::List(account, calls(random, n))
@@ -369,7 +374,8 @@ pub fn file(random: &mut Random) -> Vec<u8> {
         }
         6 => {
             let most = if random.once_in(500) { 20_000 } else { 60 };
-            file = (0..random.length(0, most)).map(|_| random.next() as u8).collect();
+            let length = random.length(0, most);
+            file = bytes(random, length);
             let known = [random.below(10) as u8, random.below(7) as u8, random.length(4, 9) as u8, 0];
             let keep = random.length(0, 4).min(file.len());
             file[..keep].copy_from_slice(&known[..keep]);
@@ -392,6 +398,53 @@ fn read(random: &mut Random) -> Input {
         counts: vec![fill * u64::MAX; lengths[2]],
     };
     Input::Read { file: File(file(random)), slices }
+}
+
+/// Slices of the reader's lengths that hold anything.
+fn slices(random: &mut Random) -> Account {
+    Account {
+        weights: (0..1_096).map(|_| random.next() as u32).collect(),
+        marks: bytes(random, 1_097),
+        counts: (0..1_097).map(|_| random.next()).collect(),
+    }
+}
+
+/// A file that is read, and slices of its length, shorter and longer to write it into.
+fn rewrite(random: &mut Random) -> Input {
+    let file = file(random);
+    let length = file.len();
+    let shorter = random.pick(&[0, length / 2, length.saturating_sub(1)]);
+    let longer = length + random.length(1, 40);
+    let outs = [length, shorter, longer].map(|length| File(bytes(random, length))).to_vec();
+    Input::Rewrite(Rewrite { file: File(file), slices: slices(random), outs })
+}
+
+/// A slice for a file of that length: exact, shorter or longer.
+fn room(random: &mut Random, file: usize) -> File {
+    let length = match random.below(60) {
+        0 => 16_384,
+        1..=5 => 0,
+        6..=11 => file - 1,
+        12..=17 => random.length(0, file),
+        18..=35 => file,
+        36..=41 => file + 1,
+        _ => file + random.length(1, 40),
+    };
+    File(bytes(random, length))
+}
+
+/// An account to write, seldom in slices as long as the reader's, and a slice for its file.
+fn case(random: &mut Random) -> (Case, File) {
+    let Account { weights, mut marks, mut counts } = account(random);
+    if random.once_in(40) {
+        marks.resize(1_097, 0);
+        counts.resize(1_097, 0);
+    }
+    let count = length(random, weights.len() + 3);
+    let items: usize = marks.iter().map(|mark| [0, 2, 10, 12][*mark as usize % 4]).sum();
+    let out = room(random, 8 + 2 * count + items);
+    let means = means(random, count, 12);
+    (Case { profile: profile(random), weekday: weekday(random), means, marks, counts }, out)
 }
 
 fn choose(random: &mut Random) -> Input {
@@ -630,7 +683,7 @@ fn text(random: &mut Random) -> Input {
 
 /// One random input.
 pub fn input(random: &mut Random) -> Input {
-    match random.below(100) {
+    match random.below(112) {
         0..=5 => Input::Temperature([any_mean(random), any_mean(random), any_mean(random), any_mean(random)]),
         6..=11 => choose(random),
         12..=16 => Input::Value(profile(random), any_mean(random)),
@@ -663,6 +716,15 @@ pub fn input(random: &mut Random) -> Input {
         75..=82 => customer_value(random),
         83..=87 => daily_amount(random),
         88..=89 => text(random),
-        _ => read(random),
+        90..=99 => read(random),
+        100..=103 => {
+            let (case, out) = case(random);
+            Input::Write { case, out }
+        }
+        104..=107 => rewrite(random),
+        _ => {
+            let (case, out) = case(random);
+            Input::ReadBack(ReadBack { case, out, slices: slices(random) })
+        }
     }
 }

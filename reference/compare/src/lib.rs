@@ -1,5 +1,6 @@
 //! Compares implementations of the paper's calls with the model on random and damaged inputs; serves every section.
 
+pub mod casefiles;
 pub mod checks;
 pub mod demand3;
 pub mod inputs;

@@ -37,6 +37,15 @@ pub trait Library {
     fn customer_value(&self, energy: u64, weights: &[u32]) -> (Answer, u64);
     fn daily_amount(&self, value: u64, weight: u32) -> (Answer, u64);
     fn read(&self, file: &[u8], weights: &mut [u32], marks: &mut [u8], counts: &mut [u64]) -> (Answer, usize);
+    fn write(
+        &self,
+        profile: ProfileNumber,
+        weekday: Weekday,
+        means: &[Mean],
+        marks: &[u8],
+        counts: &[u64],
+        out: &mut [u8],
+    ) -> (Answer, usize);
     fn statement_text(&self, from: &[u16], to: &[u16], wh: &[u64], parts: usize, out: &mut [u8]) -> usize {
         lay_out(&statement_text(from, to, wh, parts), out)
     }
@@ -49,14 +58,16 @@ type Weights = fn(ProfileNumber, Weekday, &[Mean], &[u8], &mut [u32]) -> Answer;
 type Reading = fn(&[u32], &mut [u8], &mut [u64], Boundary, u64) -> Answer;
 type Statement = fn(&[u32], &[u8], &[u64], &mut [u16], &mut [u16], &mut [u64]) -> (Answer, usize);
 type Read = fn(&[u8], &mut [u32], &mut [u8], &mut [u64]) -> (Answer, usize);
+type Write = fn(ProfileNumber, Weekday, &[Mean], &[u8], &[u64], &mut [u8]) -> (Answer, usize);
 
-/// A version in Rust: the four timed calls are its own, the others the model's.
+/// A version in Rust: the five timed calls are its own, the others the model's.
 pub struct Version {
     name: &'static str,
     weights: Weights,
     reading: Reading,
     statement: Statement,
     read: Read,
+    write: Write,
 }
 
 pub const MODEL: Version = Version {
@@ -65,6 +76,7 @@ pub const MODEL: Version = Version {
     reading: account::reading,
     statement: statement::statement,
     read: casefile::read,
+    write: casefile::write,
 };
 
 pub const PLAIN: Version = Version {
@@ -73,6 +85,7 @@ pub const PLAIN: Version = Version {
     reading: straight::plain::reading,
     statement: straight::plain::statement,
     read: straight::plain::read,
+    write: straight::plain::write,
 };
 
 pub const SAME: Version = Version {
@@ -81,6 +94,7 @@ pub const SAME: Version = Version {
     reading: straight::same::reading,
     statement: straight::same::statement,
     read: straight::same::read,
+    write: straight::same::write,
 };
 
 impl Library for Version {
@@ -143,6 +157,17 @@ impl Library for Version {
     }
     fn read(&self, file: &[u8], weights: &mut [u32], marks: &mut [u8], counts: &mut [u64]) -> (Answer, usize) {
         (self.read)(file, weights, marks, counts)
+    }
+    fn write(
+        &self,
+        profile: ProfileNumber,
+        weekday: Weekday,
+        means: &[Mean],
+        marks: &[u8],
+        counts: &[u64],
+        out: &mut [u8],
+    ) -> (Answer, usize) {
+        (self.write)(profile, weekday, means, marks, counts, out)
     }
 }
 

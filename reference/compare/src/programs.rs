@@ -1,16 +1,21 @@
-//! Sections "Case file" and "Account and its calls": the two built programs against the texts that the model
-//! and its additions give.
+//! Sections "Case file" and "Account and its calls", and change request K2: the built programs against what the model and
+//! its additions give.
 
 use crate::inputs;
 use crate::random::Random;
+use model::casefile::{read, COUNTS, MARKS, WEIGHTS};
+use model::statement::refusal_text;
+use model::DONE;
 use std::io::Write;
 use std::process::{Command, Stdio};
 
 const STORED_SCRIPT: &[u8] = include_bytes!("../../../examples/c/console.script");
 const STORED_OUTPUT: &str = include_str!("../../../examples/c/console.expected");
 
+const EXAMPLES: &str = concat!(env!("CARGO_MANIFEST_DIR"), "/../../examples/cases");
+
 /// What a program has to print, and its exit status where that is laid down.
-type Expected = (String, Option<i32>);
+type Expected = (Vec<u8>, Option<i32>);
 
 /// What a program prints for what it is given on standard input, and its exit status unless a signal ended it.
 fn run(program: &str, input: &[u8]) -> (Vec<u8>, Option<i32>) {
@@ -30,14 +35,13 @@ fn run(program: &str, input: &[u8]) -> (Vec<u8>, Option<i32>) {
 
 /// Runs a program on one input, and reports it if the program does something else than expected.
 fn check(program: &str, name: &str, input: &[u8], expected: Expected, report: &mut impl FnMut(String)) {
-    let (text, status) = run(program, input);
-    if text != expected.0.as_bytes() || expected.1.is_some() && status != expected.1 {
-        let text = String::from_utf8_lossy(&text);
+    let (printed, status) = run(program, input);
+    if printed != expected.0 || expected.1.is_some() && status != expected.1 {
+        let (printed, right) = (String::from_utf8_lossy(&printed), String::from_utf8_lossy(&expected.0));
         report(format!(
-            "{program}, {name}\ninput: {:?}\nprogram: {status:?}\n{text}\nmodel: {:?}\n{}",
+            "{program}, {name}\ninput: {:?}\nprogram: {status:?}\n{printed}\nmodel: {:?}\n{right}",
             input.escape_ascii().to_string(),
-            expected.1,
-            expected.0
+            expected.1
         ));
     }
 }
@@ -58,16 +62,39 @@ fn compare(
 }
 
 pub fn statement(program: &str, runs: u64, seed: u64, mut report: impl FnMut(String)) {
-    compare(program, runs, seed, inputs::file, |file| (model::casefile::program(file), None), &mut report);
+    let model = |file: &[u8]| (model::casefile::program(file).into_bytes(), None);
+    compare(program, runs, seed, inputs::file, model, &mut report);
+}
+
+/// The case files among the examples, each with its path.
+fn examples() -> Vec<(String, Vec<u8>)> {
+    let paths = std::fs::read_dir(EXAMPLES).unwrap().map(|entry| entry.unwrap().path());
+    let cases = paths.filter(|path| path.extension().is_some_and(|ending| ending == "case"));
+    let files: Vec<_> = cases.map(|path| (path.display().to_string(), std::fs::read(path).unwrap())).collect();
+    assert!(!files.is_empty(), "{EXAMPLES} has no case file");
+    files
+}
+
+/// The example files, and then generated ones: a file that the reader takes comes back as it is. Returns the number of
+/// examples.
+pub fn rewrite(program: &str, runs: u64, seed: u64, mut report: impl FnMut(String)) -> usize {
+    let model = |file: &[u8]| match read(file, &mut [0; WEIGHTS], &mut [0; MARKS], &mut [0; COUNTS]) {
+        (DONE, _) => (file.to_vec(), Some(0)),
+        (answer, _) => (refusal_text(answer).into_bytes(), Some(1)),
+    };
+    let examples = examples();
+    examples.iter().for_each(|(path, file)| check(program, path, file, model(file), &mut report));
+    compare(program, runs, seed, inputs::file, model, &mut report);
+    examples.len()
 }
 
 /// The stored script, and then generated ones.
 pub fn console(program: &str, runs: u64, seed: u64, mut report: impl FnMut(String)) {
     let model = |script: &[u8]| {
         let run = additions::console::console(script);
-        (run.text, Some(run.status))
+        (run.text.into_bytes(), Some(run.status))
     };
-    let stored = (STORED_OUTPUT.to_string(), model(STORED_SCRIPT).1);
+    let stored = (STORED_OUTPUT.as_bytes().to_vec(), model(STORED_SCRIPT).1);
     check(program, "the stored script", STORED_SCRIPT, stored, &mut report);
     compare(program, runs, seed, inputs::script, model, &mut report);
 }

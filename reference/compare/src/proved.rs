@@ -75,6 +75,8 @@ extern "C" {
     fn arvadush_daily_amount(value: u64, weight: u32) -> Outcome<u64>;
     fn arvadush_read(file: *const u8, _: usize, weights: *mut u32, _: usize, marks: *mut u8, _: usize,
         counts: *mut u64, _: usize) -> Outcome<u64>;
+    fn arvadush_write(profile: ProfileNumber, weekday: Weekday, means: *const Mean, _: usize,
+        marks: *const u8, _: usize, counts: *const u64, _: usize, out: *mut u8, _: usize) -> Outcome<u64>;
     fn arvadush_statement_text(from: *const u16, _: usize, to: *const u16, _: usize, wh: *const u64, _: usize,
         parts: usize, out: *mut u8, _: usize) -> usize;
     fn arvadush_refusal_text(number: u8, place: usize, out: *mut u8, _: usize) -> usize;
@@ -169,6 +171,14 @@ impl Library for Proved {
         let returned = unsafe {
             arvadush_read(file.as_ptr(), file.len(), weights.as_mut_ptr(), weights.len(),
                 marks.as_mut_ptr(), marks.len(), counts.as_mut_ptr(), counts.len())
+        };
+        (returned.answer(), returned.value as usize)
+    }
+    fn write(&self, profile: ProfileNumber, weekday: Weekday, means: &[Mean], marks: &[u8], counts: &[u64],
+        out: &mut [u8]) -> (Answer, usize) {
+        let returned = unsafe {
+            arvadush_write(profile, weekday, means.as_ptr(), means.len(), marks.as_ptr(), marks.len(),
+                counts.as_ptr(), counts.len(), out.as_mut_ptr(), out.len())
         };
         (returned.answer(), returned.value as usize)
     }

@@ -21,15 +21,24 @@ pub fn compare(input: &Input, libraries: &[Box<dyn Library>]) -> (Outcome, Vec<S
             differences.push(format!("{}:{}", library.name(), given.differences(&expected)));
         }
     }
-    if let Input::List(account, calls) = input {
-        let model: &dyn Library = &MODEL;
-        for library in libraries.iter().map(|library| library.as_ref()).chain([model]) {
-            if let Err(wrong) = demand3::check(library, account, calls) {
-                differences.push(format!("{}, demand 3: {wrong}", library.name()));
-            }
+    let model: &dyn Library = &MODEL;
+    for library in libraries.iter().map(|library| library.as_ref()).chain([model]) {
+        if let Err(wrong) = claim(input, library) {
+            differences.push(format!("{}, {wrong}", library.name()));
         }
     }
     (expected, differences)
+}
+
+/// Whether a library keeps what the papers claim of several calls together, where the input has several; else what is wrong.
+pub fn claim(input: &Input, library: &dyn Library) -> Result<(), String> {
+    let (name, checked) = match input {
+        Input::List(account, calls) => ("demand 3", demand3::check(library, account, calls)),
+        Input::Rewrite(trip) => ("K2, rewritten", trip.check(library)),
+        Input::ReadBack(trip) => ("K2, read back", trip.check(library)),
+        _ => return Ok(()),
+    };
+    checked.map_err(|wrong| format!("{name}: {wrong}"))
 }
 
 fn kind(call: &Call) -> &'static str {
@@ -76,11 +85,12 @@ pub fn one(
     let (expected, differences) = compare(&input, libraries);
     let mut count = |kind, number| *tally.entry(kind).or_default().entry(number).or_default() += 1;
     count(input.kind(), expected.answer.number);
-    if let Input::List(_, calls) = &input {
-        // A list's values are number, place and parts of each call.
-        for (call, values) in calls.iter().zip(expected.values.chunks(3)) {
-            count(kind(call), values[0] as u8);
-        }
+    // The values of several calls are number, place and value of each.
+    let numbers = expected.values.chunks(3).map(|values| values[0] as u8);
+    match &input {
+        Input::List(_, calls) => calls.iter().zip(numbers).for_each(|(call, number)| count(kind(call), number)),
+        Input::Rewrite(_) => numbers.skip(1).for_each(|number| count("in rewrites: write", number)),
+        _ => {}
     }
     differences.iter().for_each(|difference| report(&input, difference));
 }

@@ -1,12 +1,11 @@
-//! Sections "Buyer's note on contracts" and "Errors seen in other houses", and change request K1: the comparison finds each
-//! wrong library.
+//! Sections "Buyer's note on contracts" and "Errors seen in other houses", and change requests K1 and K2: the comparison
+//! finds each wrong library.
 
 use additions::texts::lay_out;
-use compare::checks::Input;
-use compare::demand3;
 use compare::library::{compared, Library, MODEL};
 use compare::programs;
-use compare::run::{compare, input, one, Tally};
+use compare::run::{claim, compare, input, one, Tally};
+use model::account::readings;
 use model::{refused, refused_at, Answer, Boundary, Mean, ProfileNumber, Weekday, DONE};
 use std::cell::RefCell;
 use std::ops::RangeInclusive;
@@ -38,6 +37,26 @@ impl Wrong {
             _ => {}
         }
         calendar
+    }
+
+    /// Marks and counts as a writer with the fault takes them.
+    fn written(&self, marks: &[u8], counts: &[u64]) -> (Vec<u8>, Vec<u64>) {
+        let (mut marks, mut counts) = (marks.to_vec(), counts.to_vec());
+        match self.0 {
+            "mark 3 written as a reading only" => replace(&mut marks, 3..=3, 2),
+            "a reading of count 0 left out" => {
+                marks.iter_mut().zip(&counts).filter(|(_, count)| **count == 0).for_each(|(mark, _)| *mark &= !2)
+            }
+            "a count in 32 bits" => counts.iter_mut().for_each(|count| *count &= 0xffff_ffff),
+            "5 asks no order of counts" => {
+                let at = readings(&marks);
+                let mut rising: Vec<u64> = at.iter().filter_map(|k| counts.get(*k).copied()).collect();
+                rising.sort();
+                at.iter().zip(rising).for_each(|(k, count)| counts[*k] = count);
+            }
+            _ => {}
+        }
+        (marks, counts)
     }
 }
 
@@ -280,6 +299,37 @@ impl Library for Wrong {
         }
         (answer, n)
     }
+    fn write(
+        &self,
+        profile: ProfileNumber,
+        weekday: Weekday,
+        means: &[Mean],
+        marks: &[u8],
+        counts: &[u64],
+        out: &mut [u8],
+    ) -> (Answer, usize) {
+        let before = out.to_vec();
+        let (marks, counts) = self.written(marks, counts);
+        let (answer, length) = MODEL.write(profile, weekday, means, &marks, &counts, out);
+        let sections = 4 + 2 * means.len();
+        match (self.0, answer.number) {
+            ("high byte first", 0) => out[2..sections].chunks_mut(2).for_each(|two| two.swap(0, 1)),
+            ("cuts before readings", 0) => out[sections..length].rotate_left(2 + 10 * readings(&marks).len()),
+            ("weekday 0 always", 0) => out[1] = 0,
+            ("bytes past the file cleared", 0) => out[length..].fill(0),
+            ("15 where the lengths are equal", 0) if length == out.len() => {
+                out.copy_from_slice(&before);
+                return (refused(15), 0);
+            }
+            ("15 before 5", 5) if out.len() < sections => return (refused(15), 0),
+            ("a part written before 15", 15) if !out.is_empty() => out[0] = profile,
+            ("a length beside 15", 15) => return (answer, sections + 4),
+            ("1 leaves the file's slice", 1) | ("4 leaves the file's slice", 4) => out.copy_from_slice(&before),
+            ("4 at an offset of the file", 4) => return (refused_at(4, 4 + 2 * answer.place), 0),
+            _ => {}
+        }
+        (answer, length)
+    }
     fn statement_text(&self, from: &[u16], to: &[u16], wh: &[u64], parts: usize, out: &mut [u8]) -> usize {
         if self.is("from and to exchanged") {
             return MODEL.statement_text(to, from, wh, parts, out);
@@ -327,7 +377,22 @@ const IN_LISTS: [&str; 18] = [
     "first statement repeated",
 ];
 
-const ELSEWHERE: [&str; 38] = [
+/// Faults that a round trip shows by itself.
+const IN_ROUND_TRIPS: [&str; 11] = [
+    "mark 3 written as a reading only",
+    "a reading of count 0 left out",
+    "a count in 32 bits",
+    "5 asks no order of counts",
+    "high byte first",
+    "cuts before readings",
+    "weekday 0 always",
+    "bytes past the file cleared",
+    "15 where the lengths are equal",
+    "a part written before 15",
+    "a length beside 15",
+];
+
+const ELSEWHERE: [&str; 42] = [
     "open leaves the counts",
     "boundary cut to 16 bits",
     "oldest mean weighted most",
@@ -358,6 +423,10 @@ const ELSEWHERE: [&str; 38] = [
     "bytes left ignored",
     "weights left after a fault",
     "a cut wipes out its reading",
+    "15 before 5",
+    "1 leaves the file's slice",
+    "4 leaves the file's slice",
+    "4 at an offset of the file",
     "weekday 7 is Monday",
     "weight rounded up",
     "from and to exchanged",
@@ -372,7 +441,7 @@ const SEED: u64 = 20_240_229;
 
 #[test]
 fn every_fault_is_found() {
-    for fault in IN_LISTS.iter().chain(&ELSEWHERE) {
+    for fault in IN_LISTS.iter().chain(&IN_ROUND_TRIPS).chain(&ELSEWHERE) {
         let libraries: [Box<dyn Library>; 1] = [Box::new(Wrong(fault, RefCell::new(None)))];
         let differences = (0..40_000).map(|index| compare(&input(SEED, index), &libraries).1);
         let found = differences.flatten().next();
@@ -380,14 +449,12 @@ fn every_fault_is_found() {
     }
 }
 
+/// Demand 3 finds the faults of an account, and K2's round trips most of those of the writer, without the model's answers.
 #[test]
-fn demand_3_alone_finds_the_faults_of_an_account() {
-    for fault in IN_LISTS {
-        let found = (0..40_000).find(|index| match input(SEED, *index) {
-            Input::List(account, calls) => demand3::check(&Wrong(fault, RefCell::new(None)), &account, &calls).is_err(),
-            _ => false,
-        });
-        assert!(found.is_some(), "{fault} is not found");
+fn a_claim_alone_finds_the_faults_of_several_calls() {
+    for fault in IN_LISTS.iter().chain(&IN_ROUND_TRIPS) {
+        let wrong = |index| claim(&input(SEED, index), &Wrong(fault, RefCell::new(None))).is_err();
+        assert!((0..40_000).any(wrong), "{fault} is not found");
     }
 }
 
@@ -398,7 +465,14 @@ fn no_difference_without_a_fault() {
     for index in 0..30_000 {
         one(SEED, index, &libraries, &mut tally, |input, text| panic!("{input:?}\n{text}"));
     }
-    for (kind, least) in [("reading", 7), ("statement", 4), ("case file", 9), ("weights", 6), ("customer value", 5)] {
+    for (kind, least) in [
+        ("reading", 7),
+        ("statement", 4),
+        ("case file", 9),
+        ("case file written", 7),
+        ("weights", 6),
+        ("customer value", 5),
+    ] {
         assert!(tally[kind].len() >= least, "{kind} reaches too few rows: {:?}", tally[kind]);
     }
 }
@@ -408,4 +482,12 @@ fn the_programs_print_what_the_model_says() {
     let fail = |text: String| panic!("{text}");
     programs::statement(env!("CARGO_BIN_EXE_statement"), 60, SEED, fail);
     programs::console(env!("CARGO_BIN_EXE_console"), 60, SEED, fail);
+}
+
+/// The statement program prints another text for each file that the reader takes, and ends with 0 also after a refusal.
+#[test]
+fn a_wrong_program_is_found() {
+    let mut found = 0;
+    let examples = programs::rewrite(env!("CARGO_BIN_EXE_statement"), 20, SEED, |_| found += 1);
+    assert_eq!(found, examples + 20);
 }

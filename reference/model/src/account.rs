@@ -18,9 +18,17 @@ pub fn lengths_fit(weights: &[u32], marks: &[u8], counts: &[u64]) -> bool {
     (1..=Profile::LONGEST).contains(&n) && marks.len() == n + 1 && counts.len() == n + 1
 }
 
-/// The boundaries that have a reading, rising.
+/// The boundaries that have this mark, rising.
+fn marked(marks: &[u8], mark: u8) -> Vec<usize> {
+    (0..marks.len()).filter(|k| marks[*k] & mark != 0).collect()
+}
+
 pub fn readings(marks: &[u8]) -> Vec<usize> {
-    (0..marks.len()).filter(|k| marks[*k] & READING != 0).collect()
+    marked(marks, READING)
+}
+
+pub fn cuts(marks: &[u8]) -> Vec<usize> {
+    marked(marks, CUT)
 }
 
 /// Row 5 does not hold: an account of fit lengths is sound.

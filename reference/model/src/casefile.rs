@@ -1,18 +1,24 @@
-//! Section "Case file": the reader, which fills three lent slices, and what the statement program prints for a file.
+//! Section "Case file": the reader, which fills three lent slices, and what the statement program prints for a file; and the
+//! writer of change request K2.
 
 use crate::profile::Profile;
 use crate::temperature::in_range;
 use crate::{account, refused, refused_at, statement, value, Answer, Mean, ProfileNumber, Weekday, DONE};
 
 pub const WEIGHTS: usize = 1_096;
-const MARKS: usize = 1_097;
-const COUNTS: usize = 1_097;
+pub const MARKS: usize = 1_097;
+pub const COUNTS: usize = 1_097;
 pub const MOST_BYTES: usize = 16_384;
 
 struct Contents {
     weights: Vec<u32>,
     marks: Vec<u8>,
     counts: Vec<u64>,
+}
+
+/// The weights of these means. Change request K1: "case files of today's layout mean 7 throughout".
+fn weigh(profile: ProfileNumber, weekday: Weekday, means: &[Mean], weights: &mut [u32]) -> Answer {
+    value::weights(profile, weekday, means, &vec![7; weights.len()], weights)
 }
 
 /// The file and the reader's own position.
@@ -105,9 +111,7 @@ impl Reader<'_> {
         let means = self.means()?;
         let n = means.len() - 3;
         let mut contents = Contents { weights: vec![0; n], marks: vec![0; n + 1], counts: vec![0; n + 1] };
-        // Change request K1: "case files of today's layout mean 7 throughout".
-        let own_days = vec![7; n];
-        assert_eq!(value::weights(profile, weekday, &means, &own_days, &mut contents.weights), DONE);
+        assert_eq!(weigh(profile, weekday, &means, &mut contents.weights), DONE);
         self.readings(&mut contents)?;
         self.cuts(&mut contents)?;
         if self.at < self.file.len() {
@@ -136,6 +140,51 @@ pub fn read(file: &[u8], weights: &mut [u32], marks: &mut [u8], counts: &mut [u6
             (DONE, n)
         }
     }
+}
+
+/// A section after its count, little-endian; an item is the length in bytes and the number of each of its fields.
+fn section(items: Vec<Vec<(usize, u64)>>) -> Vec<u8> {
+    let count = vec![(2, items.len() as u64)];
+    let fields = [vec![count], items].concat().concat();
+    fields.iter().flat_map(|(bytes, number)| (0..*bytes).map(move |i| (number >> (8 * i)) as u8)).collect()
+}
+
+/// The case file of a sound account. A boundary with both marks stands in both sections.
+fn file_of(profile: ProfileNumber, weekday: Weekday, means: &[Mean], marks: &[u8], counts: &[u64]) -> Vec<u8> {
+    let means = means.iter().map(|mean| vec![(2, *mean as u16 as u64)]).collect();
+    let readings = account::readings(marks).iter().map(|k| vec![(2, *k as u64), (8, counts[*k])]).collect();
+    let cuts = account::cuts(marks).iter().map(|k| vec![(2, *k as u64)]).collect();
+    [vec![profile, weekday], section(means), section(readings), section(cuts)].concat()
+}
+
+/// Change request K2: writes the case file of one account to the start of a lent slice, and returns its length. Rows 1, 2
+/// and 4 leave the whole slice zero, also where it is too short for the file; rows 3, 5 and 15 leave it untouched.
+pub fn write(
+    profile: ProfileNumber,
+    weekday: Weekday,
+    means: &[Mean],
+    marks: &[u8],
+    counts: &[u64],
+    out: &mut [u8],
+) -> (Answer, usize) {
+    let mut weights = vec![0; means.len().saturating_sub(3)];
+    if !account::lengths_fit(&weights, marks, counts) {
+        return (refused(3), 0);
+    }
+    let answer = weigh(profile, weekday, means, &mut weights);
+    if answer != DONE {
+        out.fill(0);
+        return (answer, 0);
+    }
+    if !account::sound(&weights, marks, counts) {
+        return (refused(5), 0);
+    }
+    let file = file_of(profile, weekday, means, marks, counts);
+    if out.len() < file.len() {
+        return (refused(15), 0);
+    }
+    out[..file.len()].copy_from_slice(&file);
+    (DONE, file.len())
 }
 
 /// What the statement program prints for what stands on its standard input.

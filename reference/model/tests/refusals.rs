@@ -1,8 +1,8 @@
-//! Section "If a call declines": rows 1 to 11 and 13, the order of the checks, the memory after; row 14 of change request
-//! K1. Row 12 stands in vectors.rs, row 4 of a day's weight in starred.rs.
+//! Section "If a call declines": rows 1 to 11 and 13, the order of the checks, the memory after; rows 14 and 15 of change
+//! requests K1 and K2. Row 12 stands in vectors.rs, row 4 of a day's weight in starred.rs.
 
 use model::account::{cut, open, reading, uncut, withdraw};
-use model::casefile::{program, read};
+use model::casefile::{program, read, write};
 use model::customer::{customer_value, daily_amount};
 use model::history::{Call, Standing};
 use model::statement::statement;
@@ -215,4 +215,47 @@ fn unfit_slices_of_the_reader() {
 fn fewer_than_two_readings_in_a_file() {
     let file = [&FILE[..16], &[0, 0, 0, 0]].concat();
     assert_eq!(program(&file), "refused 11 0\n");
+}
+
+/// Change request K2, its rows before 15 in their order: most of these calls meet conditions of later rows too, and the
+/// slice is too short for the file, or long enough.
+#[test]
+fn writing_a_case_file() {
+    let top = u64::MAX;
+    for (profile, weekday, means, marks, counts, answer) in [
+        (10, 7, vec![4_000; 3], vec![4], vec![1], refused(3)),
+        (10, 7, vec![4_000; 1_100], vec![4; 1_098], vec![1; 1_098], refused(3)),
+        (10, 7, vec![4_000; 5], vec![4; 4], vec![1; 4], refused(3)),
+        (10, 7, vec![4_000; 6], vec![4; 3], vec![1; 4], refused(3)),
+        (10, 7, vec![4_000; 6], vec![4; 4], vec![1; 5], refused(3)),
+        (10, 7, vec![4_000; 6], vec![4; 1_097], vec![1; 1_097], refused(3)),
+        (0, 0, vec![1_000; 5], vec![2, 1, 1, 2], vec![500, 0, 0, 600], refused(3)),
+        (10, 7, vec![4_000; 4], vec![4; 2], vec![1; 2], refused(1)),
+        (9, 7, vec![4_000; 4], vec![4; 2], vec![1; 2], refused(2)),
+        (9, 6, vec![-5_000, 3_999, 4_000, -5_001], vec![4; 2], vec![1; 2], refused_at(4, 2)),
+        (9, 6, vec![0, 0, 0, -5_001], vec![2; 2], vec![0; 2], refused_at(4, 3)),
+        (9, 6, vec![0; 4], vec![2, 4], vec![0; 2], refused(5)),
+        (9, 6, vec![0; 4], vec![2, 1], vec![0, 1], refused(5)),
+        (9, 6, vec![0; 4], vec![2; 2], vec![6, 5], refused(5)),
+        (9, 6, vec![0; 5], vec![2; 3], vec![5, 7, 6], refused(5)),
+        (9, 6, vec![0; 4], vec![2; 2], vec![top - 2_000_000_001, top], refused(5)),
+    ] {
+        for length in [0, 1, 15, 16, 17, 200] {
+            let mut out = vec![9; length];
+            assert_eq!(write(profile, weekday, &means, &marks, &counts, &mut out), (answer, 0));
+            assert_eq!(out, vec![if [1, 2, 4].contains(&answer.number) { 0 } else { 9 }; length]);
+        }
+    }
+}
+
+/// Row 15, after all others: a slice that is one byte short is untouched, one of the file's length is enough, and a longer
+/// one keeps its end.
+#[test]
+fn room_for_a_case_file() {
+    for (length, answer) in [(0, refused(15)), (43, refused(15)), (44, DONE), (50, DONE)] {
+        let mut out = vec![9; length];
+        let written = if answer == DONE { 44 } else { 0 };
+        assert_eq!(write(0, 0, &[1_000; 6], &[2, 1, 1, 2], &[500, 0, 0, 600], &mut out), (answer, written));
+        assert_eq!(out, [&FILE[..written], &vec![9; length - written]].concat());
+    }
 }

@@ -1,7 +1,8 @@
-//! Sections "Temperature of a day" to "Case file", and change request K1: rules that no other test of the model holds fast.
+//! Sections "Temperature of a day" to "Case file", and change requests K1 and K2: rules that no other test of the model holds
+//! fast.
 
 use model::account::reading;
-use model::casefile::{program, read};
+use model::casefile::{program, read, write};
 use model::history::{Call, Standing};
 use model::profile::PROFILES;
 use model::statement::statement;
@@ -131,7 +132,7 @@ fn unfit_outputs_of_the_statement() {
     }
 }
 
-/// Section "Case file": the longest file, and one with a byte more or less.
+/// Section "Case file": the longest file, one with a byte more or less, and the longest written again.
 #[test]
 fn the_longest_file() {
     let mut file = vec![0, 0];
@@ -150,6 +151,11 @@ fn the_longest_file() {
     let (mut weights, mut marks, mut counts) = ([9; 1_096], [9; 1_097], [9; 1_097]);
     assert_eq!(read(&file, &mut weights, &mut marks, &mut counts), (DONE, 1_096));
     assert_eq!((marks, counts[1_096]), ([3; 1_097], 1_096));
+    let mut again = [9; 15_370];
+    assert_eq!(write(0, 0, &[0; 1_099], &marks, &counts, &mut again[1..]), (refused(15), 0));
+    assert_eq!(again, [9; 15_370]);
+    assert_eq!(write(0, 0, &[0; 1_099], &marks, &counts, &mut again), (DONE, 15_370));
+    assert_eq!(again, file[..]);
     assert!(program(&file).starts_with("parts 1096\n") && program(&file).ends_with("\n1095 1096 1\nsum 1096\n"));
     assert_eq!(program(&file[..15_369]), "refused 13 15369\n");
     file.push(0);

@@ -1,8 +1,8 @@
 //! Section "Starred cases": every starred line and the line "By program"; section "Case file": its example; change
-//! request K1: its bakery.
+//! requests K1, its bakery, and K2, written files byte for byte.
 
 use model::account::{cut, open, reading};
-use model::casefile::{program, read};
+use model::casefile::{program, read, write};
 use model::customer::{customer_value, daily_amount};
 use model::power::{power, power_high, power_low, Rounding, ONE};
 use model::profile::PROFILES;
@@ -129,4 +129,31 @@ fn the_example_file() {
     assert_eq!(counts[..5], [500, 0, 0, 600, 0]);
     assert!(weights[3..].iter().all(|w| *w == 0));
     assert!(marks[4..].iter().all(|m| *m == 0) && counts[4..].iter().all(|c| *c == 0));
+}
+
+/// The example; the extremes of every field, each mark in both sections; nothing marked; a reading of count 0.
+#[test]
+fn written_files() {
+    let top = u64::MAX;
+    for (profile, weekday, means, marks, counts, hex) in [
+        (0, 0, vec![1_000; 6], vec![2, 1, 1, 2], vec![500, 0, 0, 600], EXAMPLE),
+        (
+            9,
+            6,
+            vec![-5_000, 3_999, -1, 0],
+            vec![3, 3],
+            vec![top - 2_000_000_000, top],
+            "0906040078ec9f0fffff000002000000ff6bca88ffffffff0100ffffffffffffffff020000000100",
+        ),
+        (3, 4, vec![0; 4], vec![0; 2], vec![0; 2], "03040400000000000000000000000000"),
+        (3, 4, vec![0; 4], vec![2, 0], vec![0; 2], "0304040000000000000000000100000000000000000000000000"),
+    ] {
+        let (file, n) = (bytes(hex), marks.len() - 1);
+        let mut out = vec![9; file.len() + 6];
+        assert_eq!(write(profile, weekday, &means, &marks, &counts, &mut out), (DONE, file.len()));
+        assert_eq!(out, [&file[..], &[9; 6]].concat());
+        let (mut weights, mut read_marks, mut read_counts) = ([9; 1_096], [9; 1_097], [9; 1_097]);
+        assert_eq!(read(&file, &mut weights, &mut read_marks, &mut read_counts), (DONE, n));
+        assert_eq!((&read_marks[..n + 1], &read_counts[..n + 1]), (&marks[..], &counts[..]));
+    }
 }

@@ -1,6 +1,6 @@
 //! Sections "Account and its calls" and "Case file" in plain Rust: iterators, vectors, the standard library's root.
 
-use crate::weights::Standard;
+use crate::weights::{unfit, Standard};
 use crate::{HEAVIEST, LONGEST, MOST_ENERGY};
 use model::{refused, refused_at, Answer, Mean, ProfileNumber, Weekday, DONE};
 use std::fmt::Write;
@@ -198,6 +198,45 @@ pub fn read(file: &[u8], weights: &mut [u32], marks: &mut [u8], counts: &mut [u6
         marks[k] |= 1;
     }
     (DONE, n)
+}
+
+pub fn write(
+    profile: ProfileNumber,
+    weekday: Weekday,
+    means: &[Mean],
+    marks: &[u8],
+    counts: &[u64],
+    out: &mut [u8],
+) -> (Answer, usize) {
+    // The weights of means in range are sound: any sound ones stand for them.
+    let weights = vec![1; means.len().saturating_sub(3)];
+    if !fit(&weights, marks, counts) {
+        return (refused(3), 0);
+    }
+    if let Some(answer) = unfit(profile, weekday, means) {
+        out.fill(0);
+        return (answer, 0);
+    }
+    let Some(readings) = readings(&weights, marks, counts) else {
+        return (refused(5), 0);
+    };
+    let cuts: Vec<usize> = (0..marks.len()).filter(|k| marks[*k] & 1 == 1).collect();
+    let mut file = vec![profile, weekday];
+    let two = |file: &mut Vec<u8>, number: usize| file.extend((number as u16).to_le_bytes());
+    two(&mut file, means.len());
+    means.iter().for_each(|mean| file.extend(mean.to_le_bytes()));
+    two(&mut file, readings.len());
+    for (k, count) in readings {
+        two(&mut file, k);
+        file.extend(count.to_le_bytes());
+    }
+    two(&mut file, cuts.len());
+    cuts.into_iter().for_each(|k| two(&mut file, k));
+    match out.get_mut(..file.len()) {
+        Some(start) => start.copy_from_slice(&file),
+        None => return (refused(15), 0),
+    }
+    (DONE, file.len())
 }
 
 /// What the statement program prints.

@@ -1,6 +1,6 @@
 //! Sections "Account and its calls" and "Case file" with the proved library's algorithms: the same passes over the same slices, no vectors.
 
-use crate::weights::Newton;
+use crate::weights::{unfit, Newton};
 use crate::{HEAVIEST, LONGEST, MOST_ENERGY};
 use model::{refused, refused_at, Answer, Mean, ProfileNumber, Weekday, DONE};
 
@@ -10,6 +10,10 @@ pub fn weights(profile: ProfileNumber, weekday: Weekday, means: &[Mean], calenda
 
 fn is_reading(mark: u8) -> bool {
     mark == 2 || mark == 3
+}
+
+fn is_cut(mark: u8) -> bool {
+    mark == 1 || mark == 3
 }
 
 fn good_weights(weights: &[u32]) -> bool {
@@ -350,6 +354,84 @@ pub fn read(file: &[u8], weights: &mut [u32], marks: &mut [u8], counts: &mut [u6
             (answer, 0)
         }
     }
+}
+
+/// How many readings and how many cuts there are: one pass over the marks.
+fn count_marks(marks: &[u8]) -> (usize, usize) {
+    let (mut readings, mut cuts) = (0, 0);
+    for mark in marks {
+        readings += is_reading(*mark) as usize;
+        cuts += is_cut(*mark) as usize;
+    }
+    (readings, cuts)
+}
+
+/// The lowest bytes of a number, so many of them, from an offset on.
+fn put(out: &mut [u8], at: usize, width: usize, number: u64) {
+    let mut rest = number;
+    for byte in &mut out[at..at + width] {
+        *byte = (rest % 256) as u8;
+        rest /= 256;
+    }
+}
+
+/// The items of readings and cuts, each kind from its own offset on: one pass over the boundaries.
+fn put_items(out: &mut [u8], mut reading: usize, mut cut: usize, marks: &[u8], counts: &[u64]) {
+    for (k, (mark, count)) in marks.iter().zip(counts).enumerate() {
+        if is_reading(*mark) {
+            put(out, reading, 2, k as u64);
+            put(out, reading + 2, 8, *count);
+            reading += 10;
+        }
+        if is_cut(*mark) {
+            put(out, cut, 2, k as u64);
+            cut += 2;
+        }
+    }
+}
+
+pub fn write(
+    profile: ProfileNumber,
+    weekday: Weekday,
+    means: &[Mean],
+    marks: &[u8],
+    counts: &[u64],
+    out: &mut [u8],
+) -> (Answer, usize) {
+    let n = means.len().wrapping_sub(3);
+    if n < 1 || n > LONGEST {
+        return (refused(3), 0);
+    }
+    // The weights of means in range are sound: ones stand for them.
+    let ones = [1; LONGEST];
+    let number = check(&ones[..n], marks, counts);
+    if number == 3 {
+        return (refused(3), 0);
+    }
+    if let Some(answer) = unfit(profile, weekday, means) {
+        out.fill(0);
+        return (answer, 0);
+    }
+    if number == 5 {
+        return (refused(5), 0);
+    }
+    let (readings, cuts) = count_marks(marks);
+    let length = 8 + 2 * means.len() + 10 * readings + 2 * cuts;
+    if out.len() < length {
+        return (refused(15), 0);
+    }
+    out[0] = profile;
+    out[1] = weekday;
+    put(out, 2, 2, means.len() as u64);
+    for (i, mean) in means.iter().enumerate() {
+        put(out, 4 + 2 * i, 2, *mean as u16 as u64);
+    }
+    let reading_section = 4 + 2 * means.len();
+    let cut_section = reading_section + 2 + 10 * readings;
+    put(out, reading_section, 2, readings as u64);
+    put(out, cut_section, 2, cuts as u64);
+    put_items(out, reading_section + 2, cut_section + 2, marks, counts);
+    (DONE, length)
 }
 
 /// A text in a buffer that is written once.

@@ -84,6 +84,17 @@ fn low_value<R: Root>(profile: &Profile, t: i64) -> i64 {
     (profile.a as u64 * 100 * share / ONE) as i64 + 100 * profile.d + heating.max(water)
 }
 
+/// Rows 1, 2 and 4, in this order.
+pub(crate) fn unfit(profile: ProfileNumber, weekday: Weekday, means: &[Mean]) -> Option<Answer> {
+    if profile > 9 {
+        return Some(refused(1));
+    }
+    if weekday > 6 {
+        return Some(refused(2));
+    }
+    means.iter().position(|mean| *mean < -5_000 || *mean > 3_999).map(|index| refused_at(4, index))
+}
+
 /// The weights of the days of a series.
 pub fn weights<R: Root>(
     profile: ProfileNumber,
@@ -96,13 +107,9 @@ pub fn weights<R: Root>(
     if n < 1 || n > crate::LONGEST || calendar.len() != n || out.len() != n {
         return refused(3);
     }
-    if profile > 9 || weekday > 6 {
+    if let Some(answer) = unfit(profile, weekday, means) {
         out.fill(0);
-        return refused(if profile > 9 { 1 } else { 2 });
-    }
-    if let Some(index) = means.iter().position(|mean| *mean < -5_000 || *mean > 3_999) {
-        out.fill(0);
-        return refused_at(4, index);
+        return answer;
     }
     if let Some(index) = calendar.iter().position(|byte| *byte > 7) {
         out.fill(0);

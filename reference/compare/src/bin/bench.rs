@@ -149,19 +149,16 @@ fn run_statement(library: &'static dyn Library, first: usize, n: usize, cuts: &[
     })
 }
 
-/// A file of n days with a reading and a cut at every boundary: the longest one for 1,096 days.
+/// Means of n days, and an account with a reading and a cut at every boundary: those of the longest file for 1,096 days.
+fn longest(first: usize, n: usize) -> (Vec<Mean>, Account) {
+    (means(first, n), account(first, n, 1, &(0..=n).collect::<Vec<usize>>()))
+}
+
 fn file(first: usize, n: usize) -> Vec<u8> {
-    let mut file = vec![5, 3];
-    let number = |file: &mut Vec<u8>, number: usize| file.extend((number as u16).to_le_bytes());
-    number(&mut file, n + 3);
-    means(first, n).iter().for_each(|mean| file.extend(mean.to_le_bytes()));
-    number(&mut file, n + 1);
-    for k in 0..=n {
-        number(&mut file, k);
-        file.extend((1_000_000 + 1_700_000 * k as u64).to_le_bytes());
-    }
-    number(&mut file, n + 1);
-    (0..=n).for_each(|k| number(&mut file, k));
+    let (means, Account { marks, counts, .. }) = longest(first, n);
+    let mut file = vec![0; 15_370];
+    let length = PLAIN.write(5, 3, &means, &marks, &counts, &mut file).1;
+    file.truncate(length);
     file
 }
 
@@ -169,6 +166,15 @@ fn run_read(library: &'static dyn Library, first: usize, n: usize) -> Runner<'st
     let (file, mut weights, mut marks, mut counts) = (file(first, n), vec![0; 1_096], vec![0; 1_097], vec![0; 1_097]);
     Box::new(move || {
         let answer = library.read(black_box(&file), &mut weights, &mut marks, &mut counts);
+        assert_eq!(black_box(answer).0.number, 0);
+    })
+}
+
+fn run_write(library: &'static dyn Library, first: usize, n: usize) -> Runner<'static> {
+    let (means, Account { marks, counts, .. }) = longest(first, n);
+    let mut out = vec![0; 15_370];
+    Box::new(move || {
+        let answer = library.write(5, 3, black_box(&means), black_box(&marks), black_box(&counts), &mut out);
         assert_eq!(black_box(answer).0.number, 0);
     })
 }
@@ -235,6 +241,7 @@ fn main() {
     three("statement, a cut at every boundary", |library| run_statement(library, 0, 1_096, &cuts(1_096)));
     three("statement, three cuts", |library| run_statement(library, 0, 1_096, &[200, 500, 900]));
     three("case file, the longest", |library| run_read(library, 0, 1_096));
+    three("case file written, the longest", |library| run_write(library, 0, 1_096));
     programs(Path::new(&program));
     println!("\n| proved, microseconds | 137 days | 274 | 548 | 1,096 | 1,096 days over 8 × 137 days |");
     println!("|---|---|---|---|---|---|");
@@ -243,4 +250,5 @@ fn main() {
     growth("statement, a cut at every boundary", |first, n| run_statement(&Proved, first, n, &cuts(n)));
     growth("statement, three cuts", |first, n| run_statement(&Proved, first, n, &[n / 5, n / 2, n - n / 5]));
     growth("case file", |first, n| run_read(&Proved, first, n));
+    growth("case file written", |first, n| run_write(&Proved, first, n));
 }

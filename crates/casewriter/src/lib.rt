@@ -1,0 +1,59 @@
+// The writer of case files (K2): from profile, weekday, means, marks and counts of an account to the bytes of its file.
+mod bytes;
+mod rows;
+mod sections;
+
+use common::clear_u8;
+use profile::Profile;
+use rows::account_row;
+use rows::first_out;
+use sections::count_marks;
+use sections::file_end;
+use sections::fill;
+ghost use Rattle.casewriter.specs.Writer.{number, place, size, WriteMet};
+
+// What the writer answers: the length of the file, or a row of the table with its place.
+pub enum WriteAnswer {
+    Length(usize),
+    Refused(u8, usize),
+}
+
+// Writes the case file of an account to the start of out; bytes past it stay. Each day counts as its own weekday.
+pub fn write_case(
+    profile: u8,
+    weekday: u8,
+    means: &[i16],
+    marks: &[u8],
+    counts: &[u64],
+    out: &mut [u8],
+) -> WriteAnswer
+    ensures { λ r. ⌜ WriteMet profile weekday (now (means .entry)) (now (marks .entry)) (now (counts .entry)) (now (out .entry)) (number r) (place r) (size r) (now (out .exit)) (now (means .exit)) (now (marks .exit)) (now (counts .exit)) ⌝ }
+{
+    let account = account_row(means.len(), marks, counts);
+    if account == 3 {
+        return WriteAnswer::Refused(3, 0);
+    }
+    if Profile::COUNT <= profile {
+        clear_u8(out);
+        return WriteAnswer::Refused(1, 0);
+    }
+    if 6 < weekday {
+        clear_u8(out);
+        return WriteAnswer::Refused(2, 0);
+    }
+    let first = first_out(means);
+    if first < means.len() {
+        clear_u8(out);
+        return WriteAnswer::Refused(4, first);
+    }
+    if account == 5 {
+        return WriteAnswer::Refused(5, 0);
+    }
+    let m = count_marks(marks);
+    let end = file_end(means.len(), m);
+    if out.len() < end {
+        return WriteAnswer::Refused(15, 0);
+    }
+    fill(profile, weekday, means, marks, counts, m, out);
+    WriteAnswer::Length(end)
+}
