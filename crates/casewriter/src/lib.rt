@@ -1,15 +1,17 @@
 // The writer of case files (K2): from profile, weekday, means, marks and counts of an account to the bytes of its file.
 mod bytes;
-mod rows;
 mod sections;
 
 use common::clear_u8;
 use profile::Profile;
-use rows::account_row;
-use rows::first_out;
 use sections::count_marks;
 use sections::file_end;
 use sections::fill;
+ghost use mathlib.Core.Path.{_≡_};
+ghost use Prim.Native.Nat.{_-_};
+ghost use lib.ListN.{replicate};
+ghost use Rattle.account.specs.Account.{account};
+ghost use Rattle.account.specs.Refusals.{accountRows};
 ghost use Rattle.casewriter.specs.Writer.{number, place, size, WriteMet};
 
 // What the writer answers: the length of the file, or a row of the table with its place.
@@ -41,7 +43,7 @@ pub fn write_case(
         clear_u8(out);
         return WriteAnswer::Refused(2, 0);
     }
-    let first = first_out(means);
+    let first = weights::first_out(means);
     if first < means.len() {
         clear_u8(out);
         return WriteAnswer::Refused(4, first);
@@ -56,4 +58,19 @@ pub fn write_case(
     }
     fill(profile, weekday, means, marks, counts, m, out);
     WriteAnswer::Length(end)
+}
+
+// Rows 3 and 5 for marks and counts over so many means: 3, 5, or 0 for neither. Any good weights would do, so ones stand for those of the means.
+fn account_row(means: usize, marks: &[u8], counts: &[u64]) -> u8
+    ensures { λ r. ⌜ r ≡ accountRows (account (replicate (means - 3) 1) (now (marks .entry)) (now (counts .entry))) 0 ⌝ }
+{
+    if means < Profile::SPAN_LEAST + 3 {
+        return 3;
+    }
+    let n = means - 3;
+    if Profile::SPAN_MOST < n {
+        return 3;
+    }
+    let ones = [1u32; Profile::SPAN_MOST];
+    account::check(&ones[..n], marks, counts)
 }

@@ -1,4 +1,5 @@
 -- Daily means (Temperature of a day): "Daily means are whole hundredths of a degree C, -5,000 to 3,999." The table: "4, index: first mean out of range".
+use mathlib.Core.Path.{_≡_}
 use mathlib.Core.Bool.{Bool, cond}
 use mathlib.Core.List.{List, [], _∷_}
 use Prim.Native.Nat.{ℕ, suc}
@@ -15,3 +16,8 @@ firstOut (t ∷ ts) = cond (inRange t) (suc (firstOut ts)) 0
 -- some mean is out of range
 abbrev pub someOut : List ℤ → Bool
 someOut means = ltb (firstOut means) (length means)
+
+-- row 4 asked alone
+pub record FirstOutMet (means : List ℤ) (first : ℕ) (after : List ℤ) : Type 0 where
+  pub gives : first ≡ firstOut means
+  pub stays : after ≡ means

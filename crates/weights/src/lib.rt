@@ -6,6 +6,7 @@ use common::clear_u32;
 use profile::Profile;
 ghost use Rattle.weights.specs.Temperature.{TemperatureMet};
 ghost use Rattle.weights.specs.Temperature as temperatures;
+ghost use Rattle.weights.specs.Means.{FirstOutMet};
 ghost use Rattle.weights.specs.Choose.{ChooseMet};
 ghost use Rattle.weights.specs.Weights.{WeightsMet};
 ghost use Rattle.weights.specs.Weights as spans;
@@ -66,6 +67,20 @@ pub fn choose<'a>(measured: &'a [i16], forecast: &'a [i16], n: usize) -> &'a [i1
     &measured[..0]
 }
 
+// Row 4 for a series of means: the index of the first mean out of range, or the number of means where there is none.
+pub fn first_out(means: &[i16]) -> usize
+    ensures { λ r. ⌜ FirstOutMet (now (means .entry)) r (now (means .exit)) ⌝ }
+{
+    let mut k = 0;
+    while k < means.len() {
+        if !profile::in_range(means[k]) {
+            return k;
+        }
+        k += 1;
+    }
+    k
+}
+
 // The weight of each day of a span, from its means, oldest first, the weekday of day 0, and which weekday each day counts as (7: its own).
 pub fn weights(
     profile: u8,
@@ -97,7 +112,7 @@ pub fn weights(
         clear_u32(out);
         return WeightsAnswer::NoWeekday;
     }
-    let first = means::first_out(means);
+    let first = first_out(means);
     let no_day = days::first_no_day(calendar);
     if first < means.len() {
         clear_u32(out);

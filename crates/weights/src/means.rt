@@ -1,27 +1,13 @@
 // Daily means (Temperature of a day): their range, and the rule of four of them. Inside, means are raised by 5,000 and unsigned.
+use crate::first_out;
 use profile::Profile;
 ghost use mathlib.Core.Path.{_≡_};
 ghost use mathlib.Core.Bool.{true};
 ghost use Prim.Native.Nat.{_<_};
 ghost use lib.IntN.{pos, _+ℤ_};
 ghost use Rattle.profile.specs.Limits.{inRange, coldest};
-ghost use Rattle.weights.specs.Means.{firstOut};
 ghost use Rattle.weights.specs.Temperature.{temperatureOf};
 ghost use Rattle.weights.specs.Choose.{serves};
-
-// The index of the first mean out of range, or the number of means.
-pub(crate) fn first_out(means: &[i16]) -> usize
-    ensures { λ r. ⌜ r ≡ firstOut (now (means .entry)) ⌝ }
-{
-    let mut k = 0;
-    while k < means.len() {
-        if !profile::in_range(means[k]) {
-            return k;
-        }
-        k += 1;
-    }
-    k
-}
 
 // Whether a series has so many means at its start, all in range.
 pub(crate) fn serves(series: &[i16], count: usize) -> bool

@@ -17,7 +17,7 @@ fits c = fitting _ _ _ _ (c .before .account-row .ensures) (c .if1 .left)
 ready : (c : tie.Else4) → let a = c .before .before .before .before .before .before .before .before .before .args in Ready (a .profile) (a .weekday) (a .means .now)
 ready c =
     let means = c .before .before .before .before .before .before .before .before .before .args .means .now in
-    let found = c .before .first-out .ensures in
+    let found = c .before .first-out .ensures .gives in
     record { profile-known = omega arith; weekday-known = omega arith; means-in-range = le-ltb (firstOut means) (length means) (omega arith) }
 
 -- where the file ends
@@ -69,7 +69,7 @@ returns-4 c =
     range-met _ _ _ _ (first .before .account-row .ensures) (first .if1 .left)
     (at .before .before .before .if2 .left)
     (at .before .before .if3 .left)
-    (at .before .first-out .ensures)
+    (at .before .first-out .ensures .gives)
     (at .if4 .taken)
     (c .before .before .clear-u83 .ensures)
 

@@ -18,7 +18,7 @@ ready : (c : tie.Else7) → let a = c .before .before .before .before .before .b
     Ready (a .profile) (a .weekday) (a .means .now)
 ready c =
     let m = c .before .before .before .before .before .before .before .before .before .before .before .args .means .now in
-    let e = c .before .before .first-out .ensures in
+    let e = c .before .before .first-out .ensures .gives in
     record { profile-known = omega arith; weekday-known = omega arith; means-in-range = le-ltb (firstOut m) (length m) (omega arith) }
 
 add-if1 : tie.Need-add-if1
@@ -89,7 +89,7 @@ returns-7 c =
     (at .before .before .before .before .if5 .left)
     (at .before .before .before .if6 .left)
     _
-    (at .before .before .first-out .ensures)
+    (at .before .before .first-out .ensures .gives)
     (at .if7 .taken)
     (c .before .before .clear-u323 .ensures)
 

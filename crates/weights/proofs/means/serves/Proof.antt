@@ -33,7 +33,7 @@ returns-2 c =
     let s = c .before .before .before .args .series .now in
     let n = c .before .before .before .args .count in
     let h = c .before .before .if1 .left in
-    rw (at-least n (c .first-out .result), le-leb n (length s) h, length-take-le n s h, c .first-out .ensures)
+    rw (at-least n (c .first-out .result), le-leb n (length s) h, length-take-le n s h, c .first-out .ensures .gives)
 
 pub serves-spec : {M : Type 1} → statement M
 serves-spec = tie.close (tie.spec returns slice-aggregate-first-out first-out-requires returns-2)

@@ -1,4 +1,4 @@
--- `casewriter::rows::account_row` meets its contract (K2): row 3 where there are no weights to lend, else what `account::check` answers. Assumes nothing.
+-- `casewriter::account_row` meets its contract (K2): row 3 where there are no weights to lend, else what `account::check` answers. Assumes nothing.
 use mathlib.Core.Path.{_≡_, sym, ap, _∙_}
 use mathlib.Core.List.{List}
 use Prim.Native.Nat.{ℕ, _-_, _≤_, _<_}
@@ -11,8 +11,8 @@ use Rattle.common.proofs.Lists.{take-replicate}
 use Rattle.account.specs.Account.{Account, account}
 use Rattle.account.specs.Refusals.{accountRows}
 use Rattle.account.proofs.Rows.{unfit-rows}
-use Rattle.casewriter.proofs.rows.account_row.Statement.{statement}
-use Rattle.casewriter.proofs.rows.account_row.Tie as tie
+use Rattle.casewriter.proofs.account_row.Statement.{statement}
+use Rattle.casewriter.proofs.account_row.Tie as tie
 
 -- so many means over marks and counts
 abbrev over : (means : ℕ) (marks counts : List ℕ) → Account

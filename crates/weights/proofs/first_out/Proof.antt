@@ -1,8 +1,8 @@
--- `casewriter::rows::first_out` meets its contract (K2). The invariant: the first mean out of range of the whole series is that of the rest, after the means passed.
+-- `weights::first_out` meets its contract (Temperature of a day). The invariant: the first mean out of range of the whole series is that of the rest, after the means passed.
 -- Assumes nothing.
 use borrow.Author.Needs.{needs, sfits-of}
 use borrow.Author.Tests.{not-true, not-false}
-use mathlib.Core.Path.{_≡_, sym, _∙_, ap}
+use mathlib.Core.Path.{_≡_, refl, sym, _∙_, ap}
 use Prim.Native.Nat.{_+_, _-_, _≤_}
 use native.Mathlib.Omega.{arith}
 use lib.IntN.{pos}
@@ -10,10 +10,10 @@ use lib.ListN.{length, drop, getD, drop-of-length-le}
 use mir.Facts.{toZ-ofZ}
 use mir.Syntax.{w16}
 use Rattle.profile.specs.Limits.{inRange}
 use Rattle.weights.specs.Means.{firstOut}
 use Rattle.weights.proofs.Series.{first-here, first-past}
-use Rattle.casewriter.proofs.rows.first_out.Statement.{statement}
-use Rattle.casewriter.proofs.rows.first_out.Tie as tie
+use Rattle.weights.proofs.first_out.Statement.{statement}
+use Rattle.weights.proofs.first_out.Tie as tie
 
 abbrev Inv-loop : tie.InvT-loop
 Inv-loop means k₀ k = (k ≤ length means) × (firstOut means ≡ k + firstOut (drop k means))
@@ -41,7 +41,7 @@ returns : tie.Need-returns Inv-loop μ-loop
 returns c =
     let a = c .before .before .before .before in
     let h = first-here (a .before .args .means .now) (a .loop .k) (omega arith) (sym (asked (c .before)) ∙ not-true _ (c .if1 .taken)) in
-    omega (arith, h)
+    record { gives = omega (arith, h); stays = refl }
 
 add-k : tie.Need-add-k Inv-loop μ-loop
 add-k c = omega arith
@@ -59,7 +59,7 @@ returns-2 : tie.Need-returns-2 Inv-loop μ-loop
 returns-2 c =
     let a = c .before in
     let h = ap firstOut (drop-of-length-le (a .before .args .means .now) {i = a .loop .k} (c .loop-test .left)) in
-    omega (arith, h)
+    record { gives = omega (arith, h); stays = refl }
 
 pub first-out-spec : {M : Type 1} → statement M
 first-out-spec =
