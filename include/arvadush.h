@@ -55,7 +55,7 @@ extern "C" {
 enum {
     ARVADUSH_DAYS = 1096,       /* days of the longest span: the length of the weights for a case file */
     ARVADUSH_BOUNDARIES = 1097, /* boundaries of that span: the length of the marks and of the counts for a case file */
-    ARVADUSH_FILE = 16384,      /* bytes to read of a case file: more bytes never change the answer */
+    ARVADUSH_FILE = 16384,      /* bytes to read of a case file, more never change the answer; room for any that is written */
     ARVADUSH_TEXT = 72390       /* room for the text of any account */
 };
 
@@ -242,7 +242,7 @@ arvadush_outcome arvadush_read(const uint8_t *file, size_t file_len, uint32_t *w
  *   3  n is outside 1 to 1,096, or marks or counts are not n + 1 long
  *   1  the profile is above 9; all of out is then zero
  *   2  the weekday is above 6; all of out is then zero
- *   4  a mean is out of range (place: the index of the first such mean, and no offset in the file); all of out is then zero
+ *   4  a mean is out of range (place: the index of the first such mean, not an offset in the file); all of out is then zero
  *   5  the account is unsound
  *  15  out is shorter than the file
  */

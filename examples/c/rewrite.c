@@ -1,4 +1,4 @@
-/* Reads a case file from standard input, or from the file named as argument, and writes it again or prints its refusal (Case file). */
+/* Reads a case file from standard input, or from the file named as argument, and writes it again or prints its refusal (Case file, K2). */
 #include "arvadush.h"
 #include "streams.h"
 

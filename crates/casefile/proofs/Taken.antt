@@ -17,7 +17,7 @@ use Rattle.casefile.proofs.Sound.{case-long}
 use Rattle.casefile.proofs.Agreed.{file-numbered}
 
 -- a list and the zeros after it: its start is the list
-filled-starts : (m : ℕ) (xs : List ℕ) (n : ℕ) → length xs ≡ n → take n (filled m xs) ≡ xs
+pub filled-starts : (m : ℕ) (xs : List ℕ) (n : ℕ) → length xs ≡ n → take n (filled m xs) ≡ xs
 filled-starts m xs n long = take-at xs (replicate (m - length xs) 0) n long
 
 -- a verdict without a fault

@@ -1,7 +1,7 @@
 -- What a write that is done shows (K2): no row of the table holds, and the slice begins with the file. Assumes nothing.
-use Prim.Native.Nat.{ℕ, suc, _+_, _-_, _≤_, _<_}
+use Prim.Native.Nat.{ℕ, suc, _-_, _≤_, _<_}
 use mathlib.Core.Path.{_≡_, refl, sym, _∙_, ap}
-use mathlib.Core.Bool.{true, false, not}
+use mathlib.Core.Bool.{false, not}
 use mathlib.Core.List.{List, _++_}
 use native.Mathlib.Omega.{arith}
 use borrow.Author.Tests.{ltb-false, leb-false, not-false}
@@ -12,12 +12,12 @@ use lib.Seq.{take-at}
 use Rattle.common.specs.Rows.{row}
 use Rattle.common.proofs.Rows.{rows-none}
 use Rattle.profile.specs.Limits.{profileCount}
-use Rattle.weights.specs.Means.{firstOut, someOut}
+use Rattle.weights.specs.Means.{someOut}
 use Rattle.weights.proofs.Span.{weights-length}
-use Rattle.account.specs.Account.{Account, days, unfitLengths, sound}
+use Rattle.account.specs.Account.{days, unfitLengths, sound}
 use Rattle.account.specs.Slices.{Checked}
 use Rattle.casewriter.specs.File.{fileOf}
-use Rattle.casewriter.specs.Writer.{accountGiven, Ruling, ruling, WriteMet}
+use Rattle.casewriter.specs.Writer.{accountGiven, Ruling, WriteMet}
 
 -- rows 3, 1, 2, 4 and 5 do not hold
 pub record Accepted (profile weekday : ℕ) (means : List ℤ) (marks counts : List ℕ) : Type 0 where

@@ -1,16 +1,15 @@
 -- A file that the reader takes is rewritten to its own bytes (K2): section by section, what the account of the file gives is what lies in the file. Assumes nothing.
-use Prim.Native.Nat.{ℕ, zero, suc, _+_, _*_, _-_, _≤_, _<_}
+use Prim.Native.Nat.{ℕ, zero, suc, _+_, _-_, _≤_, _<_}
 use mathlib.Core.Path.{_≡_, refl, sym, _∙_, ap, subst, subst⁻¹}
-use mathlib.Core.Bool.{Bool, true, false, cond, not, _||_}
+use mathlib.Core.Bool.{Bool, true, false, cond}
 use mathlib.Core.List.{List, [], _∷_, _++_}
 use native.Mathlib.Omega.{arith}
-use native.Mathlib.Nat.{add-zero}
-use native.Mathlib.Numerals.{add-one}
 use native.Mathlib.Decide.{decLt}
-use borrow.Author.Tests.{ltb-true, ltb-false, lt-ltb, le-ltb, le-leb, lt-leb, eq-eqb}
+use borrow.Author.Tests.{ltb-false, lt-ltb, le-ltb, lt-leb}
 use lib.Dec.{ltb}
-use lib.IntN.{ℤ, pos, negsuc, negℤ}
-use lib.ListN.{length, getD, drop, replicate, length-append}
+use lib.IntN.{ℤ, pos, negℤ}
+use lib.ListN.{length, getD, take, drop, replicate, length-append}
+use lib.Seq.{take-at, drop-at}
 use Rattle.common.specs.Below.{howMany}
 use Rattle.common.specs.Rows.{row}
 use Rattle.common.proofs.Below.{many-all}
@@ -20,11 +19,10 @@ use Rattle.profile.specs.Limits.{profileCount}
 use Rattle.weights.specs.Weights.{meanAt, weightsOf}
 use Rattle.account.specs.Account.{Account, account, days, unfitLengths, sound}
 use Rattle.account.specs.Slices.{readsAt, countAt}
-use Rattle.casefile.specs.Bytes.{little, byte, number16, number64, signed}
-use Rattle.casefile.specs.Case.{itemAt, meansAt, profileByte, weekdayByte, meansLength, meansOf, daysOf, readingsOffset, readingsLength, readingBoundary, readingCount, cutsOffset, cutsLength, cutBoundary, endOf, accountOf}
+use Rattle.casefile.specs.Bytes.{little, number16, signed}
+use Rattle.casefile.specs.Case.{itemAt, profileByte, weekdayByte, meansLength, meansOf, daysOf, readingsOffset, readingsLength, readingBoundary, cutsOffset, cutsLength, cutBoundary, endOf, accountOf}
 use Rattle.casefile.specs.Case as cases
 use Rattle.casefile.specs.Faults.{noFault, spanFault, readingsFault, cutFault, cutsFault, beforeCutsFault, sectionsFault, leftOver, faultOf}
-use Rattle.casefile.proofs.Numbers.{upper}
 use Rattle.casefile.proofs.Weighing.{means-in}
 use Rattle.casefile.proofs.Sound.{case-long, case-sound}
 use Rattle.casefile.proofs.Taken.{clean, accepted, taken-is}
@@ -34,9 +32,9 @@ use Rattle.casefile.proofs.Chained.{items-end, clean-of, span-of}
 use Rattle.casewriter.specs.Bytes.{littleBytes, twos}
 use Rattle.casewriter.specs.File.{section, meanItem, readingItem, cutItem, cutsAt, meansSection, readingsSection, cutsSection, fileOf}
 use Rattle.casewriter.specs.Writer.{accountGiven, Ruling, ruling, WriteMet}
-use Rattle.casewriter.specs.RoundTrip.{WrittenAs, Rewritten}
+use Rattle.casewriter.specs.RoundTrip.{WrittenAs, Rewritten, OwnBytes}
 use Rattle.casewriter.proofs.Sizes.{bytes-long, mean-long, reading-long, section-long}
-use Rattle.casewriter.proofs.Lies.{Lies, lies-none, lies-both, lies-all, number-back, Found, found-back}
+use Rattle.casewriter.proofs.Lies.{Lies, lies-both, lies-all, number-back, Found, found-back}
 use Rattle.casewriter.proofs.Listed.{Listed, before-each, all-counted}
 use Rattle.casewriter.proofs.Named.{weights-named, reading-sane, cut-sane, readings-listed, counts-listed, cuts-listed}
 
@@ -234,3 +232,13 @@ pub rewritten : Rewritten
 rewritten s kept lent read at n bytes reads before after marksAfter countsAfter meansAfter answered placed given met =
     written-as s bytes (clean s lent (accepted reads))
     (subst (λ (a : Account). WriteMet (profileByte s) (weekdayByte s) (meansOf s) (a .marks) (a .counts) before answered placed given after meansAfter marksAfter countsAfter) (taken-is reads) met)
+
+pub own-bytes : OwnBytes
+own-bytes file before after answered placed given w room =
+    let long = le-ltb (length before) (length file) room in
+    let size : given ≡ length file = w .gives ∙ rw long refl in
+    let is : after ≡ file ++ drop (length file) before = w .writes ∙ rw long refl in (
+      w .answers ∙ rw long refl,
+      ap (take given) is ∙ take-at file (drop (length file) before) given (sym size),
+      ap (drop given) is ∙ drop-at file (drop (length file) before) given (sym size) ∙ ap (λ (n : ℕ). drop n before) (sym size),
+    )

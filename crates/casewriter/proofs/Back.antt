@@ -1,16 +1,16 @@
 -- What is written reads back (K2): the sections of the file are those that the reader finds, none has a fault, and the account that the file names is the one that was
 -- written. Assumes nothing.
-use Prim.Native.Nat.{ℕ, zero, suc, _+_, _*_, _-_, _^_, _≤_, _<_}
+use Prim.Native.Nat.{ℕ, zero, suc, _+_, _-_, _^_, _≤_, _<_}
 use mathlib.Core.Path.{_≡_, refl, sym, _∙_, ap, subst, subst⁻¹}
-use mathlib.Core.Bool.{Bool, true, false, cond, not, _||_}
+use mathlib.Core.Bool.{Bool, true, false, _||_}
 use mathlib.Core.List.{List, [], _∷_, _++_}
 use native.Mathlib.Omega.{arith}
-use native.Mathlib.Nat.{add-zero, le-refl, mul-le-mul, mul-suc}
+use native.Mathlib.Nat.{le-refl, mul-le-mul, mul-suc}
 use native.Mathlib.Decide.{decLt}
 use borrow.Author.Tests.{lt-ltb, le-ltb, le-leb, lt-leb, eqb-true}
 use lib.Dec.{ltb, eqb}
-use lib.IntN.{ℤ, pos, negsuc, negℤ}
-use lib.ListN.{length, getD, drop, replicate, length-append, List·getD-eq-default}
+use lib.IntN.{ℤ, pos, negsuc}
+use lib.ListN.{length, getD, take, replicate, length-append, List·getD-eq-default}
 use lib.Seq.{ext-getD}
 use Rattle.rounding.proofs.Parts.{parts}
 use Rattle.profile.specs.Limits.{inRange, profileCount, spanMost}
@@ -32,11 +32,12 @@ use Rattle.casefile.specs.Faults.{noFault, failsToRise, boundaryFault, meanFaul
 use Rattle.casefile.specs.Reader.{full, ReadMet}
 use Rattle.casefile.proofs.Faults.{none-of}
 use Rattle.casefile.proofs.Sound.{case-long, case-sound}
+use Rattle.casefile.proofs.Taken.{filled-starts}
 use Rattle.casefile.specs.Case.{itemAt, boundaryAt, meansLength, meansOf, daysOf, readingsOffset, readingsLength, readingBoundary, readingCount, cutsOffset, cutsLength, cutBoundary, endOf, accountOf}
 use Rattle.casewriter.specs.Bytes.{littleBytes, twos}
 use Rattle.casewriter.specs.File.{meanItem, readingItem, cutItem, cutsAt, meansSection, readingsSection, cutsSection, fileOf}
 use Rattle.casewriter.specs.Writer.{accountGiven}
-use Rattle.casewriter.specs.RoundTrip.{ReadsBack}
+use Rattle.casewriter.specs.RoundTrip.{ReadsBack, SameAgain}
 use Rattle.casewriter.proofs.Sizes.{bytes-long, mean-long, reading-long, section-long}
 use Rattle.casewriter.proofs.Lies.{Lies, lies-first, lies-rest, lies-whole, number-lies, Found, found}
 use Rattle.casewriter.proofs.Named.{weights-named}
@@ -344,3 +345,11 @@ reads-back profile weekday means meansAfter marks counts before written marksAft
       gives = r .gives ∙ rw (fitting, none) refl ∙ ap (λ (m : ℕ). m - 3) (means-counted a bound file (lies-whole file) refl);
       writes = r .writes ∙ rw (fitting, none) refl ∙ ap full is;
     }
+
+pub same-again : SameAgain
+same-again a after answered placed n fits r =
+    let f = fit a fits in
+    let e = r .gives in
+    let whole : account (take n (full a .weights)) (take (n + 1) (full a .marks)) (take (n + 1) (full a .counts)) ≡ a =
+    rw (filled-starts spanMost (a .weights) n (sym e), filled-starts (spanMost + 1) (a .marks) (n + 1) (omega (arith, f .marks)), filled-starts (spanMost + 1) (a .counts) (n + 1) (omega (arith, f .counts))) refl in
+    ap (λ (b : Account). account (take n (b .weights)) (take (n + 1) (b .marks)) (take (n + 1) (b .counts))) (r .writes) ∙ whole

@@ -9,3 +9,4 @@ pub mod Accepted
 pub mod Written
 pub mod Back
 pub mod Again
+pub mod Room

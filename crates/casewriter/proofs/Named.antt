@@ -1,5 +1,5 @@
 -- What the account that a file names shows (K2, Case file): readings and cuts at the boundaries of the file's items and nowhere else, with their counts. Assumes nothing.
-use Prim.Native.Nat.{ℕ, zero, suc, _+_, _-_, _≤_, _<_}
+use Prim.Native.Nat.{ℕ, zero, suc, _+_, _≤_, _<_}
 use mathlib.Core.Path.{_≡_, refl, sym, _∙_, ap}
 use mathlib.Core.Bool.{Bool, true, false, cond}
 use mathlib.Core.List.{List}
@@ -10,7 +10,7 @@ use lib.Dec.{eqb}
 use lib.ListN.{length, length-replicate}
 use Rattle.common.proofs.Below.{clash}
 use Rattle.account.specs.Stands.{Stands, put}
-use Rattle.account.specs.Account.{Account, shown, marksReading, marksCut}
+use Rattle.account.specs.Account.{Account, shown}
 use Rattle.account.specs.Slices.{readsAt, countAt}
 use Rattle.account.proofs.Shows.{shows-reading, shows-cut, zeros}
 use Rattle.casefile.specs.Case.{boundaryAt, readingCountAt, readingsPut, cutsPut, daysOf, readingsOffset, readingsLength, readingBoundary, readingCount, cutsOffset, cutsLength, cutBoundary, emptyCase, withReadings, accountOf}

@@ -14,7 +14,7 @@ use Rattle.weights.specs.Weights.{meanAt}
 use Rattle.account.specs.Slices.{readsAt, countAt}
 use Rattle.casewriter.specs.Bytes.{littleBytes, twos}
 use Rattle.casewriter.specs.File.{items, section, meanItem, readingBytes, readingItem, cutItem, cutsAt, meansSection, readingsSection, cutsSection, fileOf}
-use Rattle.casewriter.specs.Sections.{readingsIn, markedIn, fileEnd, ItemsFit}
+use Rattle.casewriter.specs.Sections.{manyReadings, markedIn, fileEnd, ItemsFit}
 
 pub bytes-long : (width n : ℕ) → length (littleBytes width n) ≡ width
 unfolding littleBytes
@@ -79,7 +79,7 @@ module _ (means : List ℤ) where
         many-all (λ j. true) (λ j. refl) (length means),
       )
 
-pub readings-long : (marks counts : List ℕ) → length (items (readsAt marks) (readingItem counts) (length marks)) ≡ 10 * readingsIn marks
+pub readings-long : (marks counts : List ℕ) → length (items (readsAt marks) (readingItem counts) (length marks)) ≡ 10 * manyReadings marks
 readings-long marks counts = items-long 10 (readsAt marks) (readingItem counts) (reading-long counts) (length marks)
 
 -- the whole file

@@ -1,6 +1,6 @@
 -- The rows of the table for a call of `write_case` (K2, If a call declines): under a row's condition, and none above it, the row's answer meets the contract.
 -- Assumes nothing.
-use Prim.Native.Nat.{ℕ, _+_, _-_, _≤_, _<_}
+use Prim.Native.Nat.{ℕ, _-_, _≤_, _<_}
 use mathlib.Core.Path.{_≡_, refl, sym, _∙_, ap}
 use mathlib.Core.Bool.{Bool, true, false, not}
 use mathlib.Core.List.{List, _++_}
@@ -23,7 +23,7 @@ use Rattle.account.proofs.Sound.{fit}
 use Rattle.casefile.proofs.Weighing.{weights-good}
 use Rattle.casewriter.specs.File.{cutsAt, fileOf}
 use Rattle.casewriter.specs.Writer.{accountGiven, Ruling, ruling, WriteMet}
-use Rattle.casewriter.specs.Sections.{readingsIn, cutsIn, markedIn, fileEnd}
+use Rattle.casewriter.specs.Sections.{manyReadings, manyCuts, markedIn, fileEnd}
 use Rattle.casewriter.proofs.Sizes.{file-long}
 use Rattle.casewriter.proofs.Stored.{from-start}
 
@@ -80,8 +80,8 @@ refused number place memory = record { number = number; place = place; size = 0;
 pub record Fitting (means : List ℤ) (marks counts : List ℕ) : Type 0 where
   pub as-long : length counts ≡ length marks
   pub means-few : length means ≤ 1_099
-  pub readings-few : readingsIn marks ≤ 1_097
-  pub cuts-few : cutsIn marks ≤ 1_097
+  pub readings-few : manyReadings marks ≤ 1_097
+  pub cuts-few : manyCuts marks ≤ 1_097
 
 module _ (means : List ℤ) (marks counts : List ℕ) where
   -- the account that rows 3 and 5 are asked of: as long as the weights of the means

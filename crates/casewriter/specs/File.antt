@@ -40,7 +40,7 @@ cutItem k = littleBytes 2 k
 abbrev pub cutsAt : (marks : List ℕ) (k : ℕ) → Bool
 cutsAt marks k = marksCut (getD marks k 0)
 
--- every mean, every boundary with a reading, every boundary with a cut
+-- the three sections: every mean (the question is always answered with yes), every boundary with a reading, every boundary with a cut
 abbrev pub meansSection : (means : List ℤ) → List ℕ
 meansSection means = section (λ i. true) (meanItem means) (length means)
 

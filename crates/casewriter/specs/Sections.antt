@@ -12,14 +12,14 @@ use Rattle.casewriter.specs.declared.sections.Marked.{Marked}
 use Rattle.casewriter.specs.File.{items, readingItem, cutItem, cutsAt}
 
 -- how many readings and how many cuts these marks show
-abbrev pub readingsIn : (marks : List ℕ) → ℕ
-readingsIn marks = howMany (readsAt marks) (length marks)
+abbrev pub manyReadings : (marks : List ℕ) → ℕ
+manyReadings marks = howMany (readsAt marks) (length marks)
 
-abbrev pub cutsIn : (marks : List ℕ) → ℕ
-cutsIn marks = howMany (cutsAt marks) (length marks)
+abbrev pub manyCuts : (marks : List ℕ) → ℕ
+manyCuts marks = howMany (cutsAt marks) (length marks)
 
 abbrev pub markedIn : (marks : List ℕ) → Marked
-markedIn marks = record { readings = readingsIn marks; cuts = cutsIn marks }
+markedIn marks = record { readings = manyReadings marks; cuts = manyCuts marks }
 
 -- where the readings and the cuts start, and where a file of so many means, readings and cuts ends
 abbrev pub readingsStart : (means : ℕ) → ℕ
@@ -31,21 +31,21 @@ cutsStart means readings = itemAt 10 (readingsStart means) readings
 abbrev pub fileEnd : (means : ℕ) (m : Marked) → ℕ
 fileEnd means m = itemAt 2 (cutsStart means (m .readings)) (m .cuts)
 
--- an item stored from an offset on, and the offset after it; nothing where there is none
+-- an item stored at an offset, and the offset after it; an empty item stores nothing
 pub record ItemPut (at : ℕ) (item before : List ℕ) (next : ℕ) (after : List ℕ) : Type 0 where
   pub ends : next ≡ at + length item
   pub stored : after ≡ sets before at item
 
 -- room for the items of the readings from one offset on, and after them for those of the cuts from another
-pub record ItemsFit (marks counts out : List ℕ) (readings cuts : ℕ) : Type 0 where
+pub record ItemsFit (marks counts out : List ℕ) (readings-at cuts-at : ℕ) : Type 0 where
   pub as-long : length counts ≡ length marks
-  pub apart : readings + 10 * readingsIn marks ≤ cuts
-  pub inside : cuts + 2 * cutsIn marks ≤ length out
+  pub apart : readings-at + 10 * manyReadings marks ≤ cuts-at
+  pub inside : cuts-at + 2 * manyCuts marks ≤ length out
 
 -- both stored
-abbrev pub bothStored : (marks counts out : List ℕ) (readings cuts m : ℕ) → List ℕ
-bothStored marks counts out readings cuts m =
-    sets (sets out readings (items (readsAt marks) (readingItem counts) m)) cuts (items (cutsAt marks) cutItem m)
+abbrev pub bothStored : (marks counts out : List ℕ) (readings-at cuts-at m : ℕ) → List ℕ
+bothStored marks counts out readings-at cuts-at m =
+    sets (sets out readings-at (items (readsAt marks) (readingItem counts) m)) cuts-at (items (cutsAt marks) cutItem m)
 
 -- room for a file
 pub record FileFits (means : List ℤ) (marks counts out : List ℕ) (m : Marked) : Type 0 where

@@ -30,7 +30,7 @@ pub record Ruling : Type 0 where
 abbrev pub ruling : (profile weekday : ℕ) (means : List ℤ) (marks counts before : List ℕ) → Ruling
 ruling profile weekday means marks counts before =
     let file = fileOf profile weekday means marks counts in
-    row (unfitLengths (length means - 3) (length marks) (length counts)) (record { number = 3; place = 0; size = 0; memory = before })  -- n outside 1 to 1,096, or a lent length unfit
+    row (unfitLengths (length means - 3) (length marks) (length counts)) (record { number = 3; place = 0; size = 0; memory = before })  -- n (the means less three) outside 1 to 1,096, or marks or counts not n+1 long
     (row (leb profileCount profile) (record { number = 1; place = 0; size = 0; memory = zeros before })  -- profile above 9
     (row (ltb 6 weekday) (record { number = 2; place = 0; size = 0; memory = zeros before })  -- weekday above 6
     (row (someOut means) (record { number = 4; place = firstOut means; size = 0; memory = zeros before })  -- first mean out of range

@@ -5,7 +5,7 @@ ghost use lib.ListN.{length};
 ghost use lib.Seq.{sets};
 ghost use Rattle.casewriter.specs.Bytes.{littleBytes, twos};
 
-// The lowest bytes of a number, so many of them, from an offset on.
+// Stores the lowest `width` bytes of n from an offset on.
 pub(crate) fn number(out: &mut [u8], at: usize, width: usize, n: u64)
     requires { ⌜ at + width ≤ length (now out) ⌝ }
     ensures { λ _. ⌜ now (out .exit) ≡ sets (now (out .entry)) at (littleBytes width n) ⌝ }
@@ -19,7 +19,7 @@ pub(crate) fn number(out: &mut [u8], at: usize, width: usize, n: u64)
     }
 }
 
-// A mean as the 16-bit number that two's complement has for it.
+// Gives the 16-bit number that two's complement has for a mean.
 pub(crate) fn twos(mean: i16) -> u64
     ensures { λ r. ⌜ r ≡ twos mean ⌝ }
 {

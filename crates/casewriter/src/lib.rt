@@ -20,7 +20,7 @@ pub enum WriteAnswer {
     Refused(u8, usize),
 }
 
-// Writes the case file of an account to the start of out; bytes past it stay. Each day counts as its own weekday.
+// Writes the case file of an account to the start of out. Bytes past the file stay. Rows 1, 2 and 4 clear all of out, and the other refusals leave it.
 pub fn write_case(
     profile: u8,
     weekday: u8,
@@ -31,8 +31,8 @@ pub fn write_case(
 ) -> WriteAnswer
     ensures { λ r. ⌜ WriteMet profile weekday (now (means .entry)) (now (marks .entry)) (now (counts .entry)) (now (out .entry)) (number r) (place r) (size r) (now (out .exit)) (now (means .exit)) (now (marks .exit)) (now (counts .exit)) ⌝ }
 {
-    let account = account_row(means.len(), marks, counts);
-    if account == 3 {
+    let row = account_row(means.len(), marks, counts);
+    if row == 3 {
         return WriteAnswer::Refused(3, 0);
     }
     if Profile::COUNT <= profile {
@@ -48,7 +48,7 @@ pub fn write_case(
         clear_u8(out);
         return WriteAnswer::Refused(4, first);
     }
-    if account == 5 {
+    if row == 5 {
         return WriteAnswer::Refused(5, 0);
     }
     let m = count_marks(marks);

@@ -8,6 +8,7 @@ ghost use mathlib.Core.List.{[]};
 ghost use Prim.Native.Nat.{_+_, _*_, _≤_};
 ghost use lib.ListN.{length};
 ghost use lib.Seq.{sets};
+ghost use Rattle.profile.specs.Limits.{spanMost};
 ghost use Rattle.account.specs.Account.{marksReading, marksCut};
 ghost use Rattle.casewriter.specs.File.{readingBytes, cutItem, meansSection, fileOf};
 ghost use Rattle.casewriter.specs.Sections.{markedIn, fileEnd, ItemsFit, bothStored, FileFits, ItemPut};
@@ -51,13 +52,13 @@ pub(crate) fn count_marks(marks: &[u8]) -> Marked
 
 // Where a file of so many means, readings and cuts ends.
 pub(crate) fn file_end(means: usize, m: Marked) -> usize
-    requires { ⌜ (means ≤ 1099) × (m .readings ≤ 1097) × (m .cuts ≤ 1097) ⌝ }
+    requires { ⌜ (means ≤ spanMost + 3) × (m .readings ≤ spanMost + 1) × (m .cuts ≤ spanMost + 1) ⌝ }
     ensures { λ r. ⌜ r ≡ fileEnd means m ⌝ }
 {
     8 + 2 * means + 10 * m.readings + 2 * m.cuts
 }
 
-// The means' section from an offset on.
+// Stores the means' section from an offset on.
 fn means_into(out: &mut [u8], at: usize, means: &[i16])
     requires { ⌜ at + 2 + 2 * length (now means) ≤ length (now out) ⌝ }
     ensures { λ _. ⌜ now (out .exit) ≡ sets (now (out .entry)) at (meansSection (now (means .entry))) ⌝ }
@@ -70,7 +71,7 @@ fn means_into(out: &mut [u8], at: usize, means: &[i16])
     }
 }
 
-// The item of a boundary's reading at an offset, where its mark has one; the next offset.
+// Stores the item of a boundary's reading at an offset, if its mark has a reading. Returns the offset after it.
 fn reading_into(out: &mut [u8], at: usize, mark: u8, k: usize, count: u64) -> usize
     requires { ⌜ at + length (cond (marksReading mark) (readingBytes k count) []) ≤ length (now out) ⌝ }
     ensures { λ r. ⌜ ItemPut at (cond (marksReading mark) (readingBytes k count) []) (now (out .entry)) r (now (out .exit)) ⌝ }
@@ -83,7 +84,7 @@ fn reading_into(out: &mut [u8], at: usize, mark: u8, k: usize, count: u64) -> us
     at
 }
 
-// The item of a boundary's cut, likewise.
+// Stores the item of a boundary's cut, likewise.
 fn cut_into(out: &mut [u8], at: usize, mark: u8, k: usize) -> usize
     requires { ⌜ at + length (cond (marksCut mark) (cutItem k) []) ≤ length (now out) ⌝ }
     ensures { λ r. ⌜ ItemPut at (cond (marksCut mark) (cutItem k) []) (now (out .entry)) r (now (out .exit)) ⌝ }
@@ -95,13 +96,13 @@ fn cut_into(out: &mut [u8], at: usize, mark: u8, k: usize) -> usize
     at
 }
 
-// The items of the readings and of the cuts, each kind from its own offset on, in one pass.
-fn items_into(out: &mut [u8], readings: usize, cuts: usize, marks: &[u8], counts: &[u64])
-    requires { ⌜ ItemsFit (now marks) (now counts) (now out) readings cuts ⌝ }
-    ensures { λ _. ⌜ now (out .exit) ≡ bothStored (now (marks .entry)) (now (counts .entry)) (now (out .entry)) readings cuts (length (now (marks .entry))) ⌝ }
+// Stores the items of the readings from the offset `reading` on, and those of the cuts from `cut` on, in one pass.
+fn items_into(out: &mut [u8], reading: usize, cut: usize, marks: &[u8], counts: &[u64])
+    requires { ⌜ ItemsFit (now marks) (now counts) (now out) reading cut ⌝ }
+    ensures { λ _. ⌜ now (out .exit) ≡ bothStored (now (marks .entry)) (now (counts .entry)) (now (out .entry)) reading cut (length (now (marks .entry))) ⌝ }
 {
-    let mut r = readings;
-    let mut c = cuts;
+    let mut r = reading;
+    let mut c = cut;
     let mut k = 0;
     while k < marks.len() {
         r = reading_into(out, r, marks[k], k, counts[k]);
@@ -110,7 +111,7 @@ fn items_into(out: &mut [u8], readings: usize, cuts: usize, marks: &[u8], counts
     }
 }
 
-// The whole file from the start of out.
+// Stores the whole file from the start of out.
 pub(crate) fn fill(
     profile: u8,
     weekday: u8,
@@ -126,9 +127,9 @@ pub(crate) fn fill(
     out[0] = profile;
     out[1] = weekday;
     means_into(out, 2, means);
-    let readings = 4 + 2 * means.len();
-    let cuts = readings + 2 + 10 * m.readings;
-    number(out, readings, 2, m.readings as u64);
-    number(out, cuts, 2, m.cuts as u64);
-    items_into(out, readings + 2, cuts + 2, marks, counts);
+    let readings_at = 4 + 2 * means.len();
+    let cuts_at = readings_at + 2 + 10 * m.readings;
+    number(out, readings_at, 2, m.readings as u64);
+    number(out, cuts_at, 2, m.cuts as u64);
+    items_into(out, readings_at + 2, cuts_at + 2, marks, counts);
 }

@@ -17,7 +17,7 @@ firstOut (t ∷ ts) = cond (inRange t) (suc (firstOut ts)) 0
 abbrev pub someOut : List ℤ → Bool
 someOut means = ltb (firstOut means) (length means)
 
--- row 4 asked alone
+-- the index that row 4 gives, and the means as they were lent
 pub record FirstOutMet (means : List ℤ) (first : ℕ) (after : List ℤ) : Type 0 where
   pub gives : first ≡ firstOut means
   pub stays : after ≡ means

@@ -21,20 +21,20 @@ slice-write-out-2 c = simp length-set (omega arith)
 means-into-requires : tie.Need-means-into-requires
 means-into-requires c κs = simp length-set (omega arith)
 
-mul-readings : tie.Need-mul-readings
-mul-readings c = search needs
+mul-readings-at : tie.Need-mul-readings-at
+mul-readings-at c = search needs
 
-add-readings : tie.Need-add-readings
-add-readings c = search needs
+add-readings-at : tie.Need-add-readings-at
+add-readings-at c = search needs
 
-add-cuts : tie.Need-add-cuts
-add-cuts c = search needs
+add-cuts-at : tie.Need-add-cuts-at
+add-cuts-at c = search needs
 
-mul-cuts : tie.Need-mul-cuts
-mul-cuts c = search needs
+mul-cuts-at : tie.Need-mul-cuts-at
+mul-cuts-at c = search needs
 
-add-cuts-2 : tie.Need-add-cuts-2
-add-cuts-2 c = search needs
+add-cuts-at-2 : tie.Need-add-cuts-at-2
+add-cuts-at-2 c = search needs
 
 number-requires : tie.Need-number-requires
 number-requires c κs = omega (arith, as-long (c .before .before .before .before))
@@ -79,11 +79,11 @@ fill-spec =
     slice-write-out
     slice-write-out-2
     means-into-requires
-    mul-readings
-    add-readings
-    add-cuts
-    mul-cuts
-    add-cuts-2
+    mul-readings-at
+    add-readings-at
+    add-cuts-at
+    mul-cuts-at
+    add-cuts-at-2
     number-requires
     number-requires-2
     add-items-into

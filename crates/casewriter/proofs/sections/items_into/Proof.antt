@@ -69,7 +69,7 @@ loop-again c =
     let room = reading-fits (s .pre) (l .k) (first .before .before .before .before .loop-test .taken) in (
       omega arith,
       omega arith,
-      both-more marks counts (s .args .out .now) (s .args .readings) (s .args .cuts) (l .k) (l .inv .2) (l .inv .3) (l .inv .4) (omega arith) (first .reading-into .ensures) (second .cut-into .ensures),
+      both-more marks counts (s .args .out .now) (s .args .reading) (s .args .cut) (l .k) (l .inv .2) (l .inv .3) (l .inv .4) (omega arith) (first .reading-into .ensures) (second .cut-into .ensures),
       omega (arith, first .reading-into .ensures .ends, longer (readsAt marks) (readingItem counts) (l .k)),
       omega (arith, second .cut-into .ensures .ends, longer (cutsAt marks) cutItem (l .k)),
     )
@@ -82,7 +82,7 @@ returns c =
     let l = c .before .loop in
     let a = c .before .before .before .before .before .args in
     let end : l .k ≡ length (a .marks .now) = omega arith in
-    l .inv .2 ∙ ap (bothStored (a .marks .now) (a .counts .now) (a .out .now) (a .readings) (a .cuts)) end
+    l .inv .2 ∙ ap (bothStored (a .marks .now) (a .counts .now) (a .out .now) (a .reading) (a .cut)) end
 
 pub items-into-spec : {M : Type 1} → statement M
 items-into-spec =
