@@ -12,7 +12,6 @@ use lib.ListN.{length, getD, take, drop, replicate, length-append}
 use lib.Seq.{take-at, drop-at}
 use Rattle.common.specs.Below.{howMany}
 use Rattle.common.specs.Rows.{row}
-use Rattle.common.proofs.Below.{many-all}
 use Rattle.common.proofs.Rows.{rows-all}
 use Rattle.common.proofs.Lists.{listOf-length, listOf-at}
 use Rattle.profile.specs.Limits.{profileCount}
@@ -35,7 +34,7 @@ use Rattle.casewriter.specs.Writer.{accountGiven, Ruling, ruling, WriteM
 use Rattle.casewriter.specs.RoundTrip.{WrittenAs, Rewritten, OwnBytes}
 use Rattle.casewriter.proofs.Sizes.{bytes-long, mean-long, reading-long, section-long}
 use Rattle.casewriter.proofs.Lies.{Lies, lies-both, lies-all, number-back, Found, found-back}
-use Rattle.casewriter.proofs.Listed.{Listed, before-each, all-counted}
+use Rattle.casewriter.proofs.Listed.{many-all, Listed, before-each, all-counted}
 use Rattle.casewriter.proofs.Named.{weights-named, reading-sane, cut-sane, readings-listed, counts-listed, cuts-listed}
 
 -- two's complement and back

@@ -20,7 +20,7 @@ use Rattle.common.proofs.Lists.{listOf-length, listOf-at}
 use Rattle.weights.specs.Weights.{meanAt, weightsOf}
 use Rattle.weights.proofs.Series.{all-in}
 use Rattle.casefile.specs.Bytes.{byte, number16, signed}
-use Rattle.common.proofs.Below.{clash, every-at, many-most, many-all, none-is, first-found, last-found, first-least, last-most}
+use Rattle.common.proofs.Below.{clash, every-at, none-is, first-found, last-found, first-least, last-most}
 use Rattle.account.specs.Stands.{lastLessFirst, firstReading, lastReading}
 use Rattle.account.specs.Account.{Account, account, days, shown, marksReading, marksCut, markOf, zeroCounts, energyMost}
 use Rattle.account.specs.Slices.{readsAt, countAt, Checked}
@@ -43,7 +43,7 @@ use Rattle.casewriter.proofs.Lies.{Lies, lies-first, lies-rest, lies-wh
 use Rattle.casewriter.proofs.Named.{weights-named}
 use Rattle.casewriter.proofs.Named as named
 use Rattle.casewriter.proofs.Accepted.{Accepted, given-days, accepted, begins}
-use Rattle.casewriter.proofs.Listed.{Listed, listed-same, before-each, fewer, earlier, ith}
+use Rattle.casewriter.proofs.Listed.{many-most, many-all, Listed, listed-same, before-each, fewer, earlier, ith}
 
 -- a sound account has no count where it has no reading
 zero-count : (a : Account) → Checked a → (k : ℕ) → k < suc (days a) → shown a .readings .at k ≡ false → getD (a .counts) k 0 ≡ 0

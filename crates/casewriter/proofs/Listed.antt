@@ -5,9 +5,9 @@ use mathlib.Core.Bool.{Bool, true, false, cond}
 use native.Mathlib.Omega.{arith}
 use native.Mathlib.Numerals.{add-one}
 use native.Mathlib.Nat.{add-zero}
-use native.Mathlib.Decide.{decLt}
+use native.Mathlib.Decide.{decLt, le-ind}
 use Rattle.common.specs.Below.{howMany}
-use Rattle.common.proofs.Below.{refuted, many-up}
+use Rattle.common.proofs.Below.{refuted}
 
 -- p holds at b 0, b 1, .. up to `count` of them, and nowhere else; they rise and lie below m
 pub record Listed (p : ℕ → Bool) (b : ℕ → ℕ) (count m : ℕ) : Type 0 where
@@ -29,6 +29,25 @@ listed-same {p} {q} a b k = go (p k) (q k) (listed-too a b k) (listed-too b a k)
     go false false there back = refl
 
 module _ (p : ℕ → Bool) where
+  -- how many there are: no more than the numbers asked, no fewer below a larger one, and all of them where p always holds
+  pub many-most : (m : ℕ) → howMany p m ≤ m
+  unfolding howMany
+  many-most zero = omega arith
+  many-most (suc m) = go (p m) (many-most m)
+    where
+      go : (b : Bool) → howMany p m ≤ m → howMany p m + cond b 1 0 ≤ suc m
+      go true l = omega arith
+      go false l = omega arith
+
+  pub many-up : (m n : ℕ) → m ≤ n → howMany p m ≤ howMany p n
+  unfolding howMany
+  many-up m = le-ind (λ n. howMany p m ≤ howMany p n) (omega arith) (λ n h l. omega arith)
+
+  pub many-all : ((k : ℕ) → p k ≡ true) → (m : ℕ) → howMany p m ≡ m
+  unfolding howMany
+  many-all all zero = refl
+  many-all all (suc m) = rw (all m, many-all all m) (omega arith)
+
   pub many-same : (j d : ℕ) → ((i : ℕ) → j ≤ i → i < j + d → p i ≡ false) → howMany p (j + d) ≡ howMany p j
   unfolding howMany
   many-same j zero none = rw add-zero refl
@@ -41,7 +60,7 @@ module _ (p : ℕ → Bool) where
   unfolding howMany
   fewer m k l h =
       let one : howMany p (suc k) ≡ howMany p k + 1 = rw h refl in
-      omega (arith, many-up p (suc k) m l)
+      omega (arith, many-up (suc k) m l)
 
   -- of two the one with fewer before it is the earlier
   pub earlier : (j k : ℕ) → howMany p j < howMany p k → j < k
@@ -49,7 +68,7 @@ module _ (p : ℕ → Bool) where
     where
       go : Dec (j < k) → j < k
       go (yes h) = h
-      go (no g) = absurd (omega (arith, many-up p k j (omega arith)))
+      go (no g) = absurd (omega (arith, many-up k j (omega arith)))
 
   -- the one that has i of them before it
   pub ith : (m i : ℕ) → i < howMany p m → (k : ℕ) × (k < m) × (p k ≡ true) × (howMany p k ≡ i)

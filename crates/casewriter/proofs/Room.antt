@@ -7,7 +7,6 @@ use borrow.Author.Tests.{ltb-true}
 use lib.Dec.{leb, ltb, eqb}
 use lib.ListN.{length}
 use Rattle.common.specs.Rows.{row}
-use Rattle.common.proofs.Below.{many-most}
 use Rattle.common.proofs.Rows.{rows-none}
 use Rattle.profile.specs.Limits.{profileCount}
 use Rattle.weights.specs.Means.{someOut}
@@ -17,6 +16,7 @@ use Rattle.account.proofs.Sound.{fit}
 use Rattle.casewriter.specs.File.{cutsAt, fileOf}
 use Rattle.casewriter.specs.Writer.{accountGiven, Ruling, ruling}
 use Rattle.casewriter.specs.RoundTrip.{RoomEnough}
+use Rattle.casewriter.proofs.Listed.{many-most}
 use Rattle.casewriter.proofs.Sizes.{file-long}
 use Rattle.casewriter.proofs.Accepted.{given-days}
 

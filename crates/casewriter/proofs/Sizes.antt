@@ -9,12 +9,12 @@ use native.Mathlib.Numerals.{add-one}
 use lib.IntN.{ℤ}
 use lib.ListN.{length, length-append}
 use Rattle.common.specs.Below.{howMany}
-use Rattle.common.proofs.Below.{many-all, many-up}
 use Rattle.weights.specs.Weights.{meanAt}
 use Rattle.account.specs.Slices.{readsAt, countAt}
 use Rattle.casewriter.specs.Bytes.{littleBytes, twos}
 use Rattle.casewriter.specs.File.{items, section, meanItem, readingBytes, readingItem, cutItem, cutsAt, meansSection, readingsSection, cutsSection, fileOf}
 use Rattle.casewriter.specs.Sections.{manyReadings, markedIn, fileEnd, ItemsFit}
+use Rattle.casewriter.proofs.Listed.{many-all, many-up}
 
 pub bytes-long : (width n : ℕ) → length (littleBytes width n) ≡ width
 unfolding littleBytes

@@ -9,12 +9,12 @@ use lib.IntN.{ℤ}
 use lib.ListN.{length, drop, set, length-append}
 use lib.Seq.{sets, set-comm, sets-eq}
 use Rattle.common.proofs.Lists.{sets-append}
-use Rattle.common.proofs.Below.{many-all}
 use Rattle.account.specs.Slices.{readsAt}
 use Rattle.casewriter.specs.declared.sections.Marked.{Marked}
 use Rattle.casewriter.specs.Bytes.{littleBytes}
 use Rattle.casewriter.specs.File.{items, meanItem, readingItem, cutItem, cutsAt, meansSection, fileOf}
 use Rattle.casewriter.specs.Sections.{markedIn, ItemPut, bothStored}
+use Rattle.casewriter.proofs.Listed.{many-all}
 use Rattle.casewriter.proofs.Sizes.{bytes-long, items-more, means-long, start-long, readings-long}
 
 -- what is stored before other stores can be stored first

@@ -12,7 +12,7 @@ use lib.ListN.{length, drop, replicate, length-replicate, getD-replicate}
 use lib.Seq.{sets}
 use Rattle.profile.specs.Limits.{profileCount}
 use Rattle.common.specs.Rows.{row, zeros}
-use Rattle.common.proofs.Below.{every-is, many-most}
+use Rattle.common.proofs.Below.{every-is}
 use Rattle.weights.specs.Means.{firstOut}
 use Rattle.weights.specs.Weights.{weightsOf, Ready}
 use Rattle.weights.proofs.Span.{weights-length}
@@ -24,6 +24,7 @@ use Rattle.casefile.proofs.Weighing.{weights-good}
 use Rattle.casewriter.specs.File.{cutsAt, fileOf}
 use Rattle.casewriter.specs.Writer.{accountGiven, Ruling, ruling, WriteMet}
 use Rattle.casewriter.specs.Sections.{manyReadings, manyCuts, markedIn, fileEnd}
+use Rattle.casewriter.proofs.Listed.{many-most}
 use Rattle.casewriter.proofs.Sizes.{file-long}
 use Rattle.casewriter.proofs.Stored.{from-start}
 

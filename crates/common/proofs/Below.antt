@@ -2,8 +2,7 @@
 use mathlib.Core.Path.{_≡_, refl, sym, subst}
 use mathlib.Core.Bool.{Bool, true, false, cond, _&&_, _||_, and-false, or-true}
 use mathlib.Core.Logic.{⊎-elim}
-use Prim.Native.Nat.{ℕ, zero, suc, _+_, _≤_, _<_}
-use native.Mathlib.Decide.{le-ind}
+use Prim.Native.Nat.{ℕ, zero, suc, _≤_, _<_}
 use native.Mathlib.Nat.{not-suc-le-zero, eq-or-lt-of-le, le-of-suc-le-suc}
 use native.Mathlib.Omega.{arith}
 use Rattle.common.specs.Below.{everywhere, somewhere, howMany, first, last}
@@ -70,25 +69,6 @@ module _ (p : ℕ → Bool) where
       go : (0 < howMany p m → (k : ℕ) × (k < m) × (p k ≡ true)) → (b : Bool) → p m ≡ b → (k : ℕ) × (k < suc m) × (p k ≡ true)
       go rest true e = (m, omega arith, e)
       go rest false e = let r = rest (omega (arith, rw e at h)) in (r .0, omega (arith, r .1), r .2)
-
-  -- how many there are: no more than the numbers asked, no fewer below a larger one, and all of them where p always holds
-  pub many-most : (m : ℕ) → howMany p m ≤ m
-  unfolding howMany
-  many-most zero = omega arith
-  many-most (suc m) = go (p m) (many-most m)
-    where
-      go : (b : Bool) → howMany p m ≤ m → howMany p m + cond b 1 0 ≤ suc m
-      go true l = omega arith
-      go false l = omega arith
-
-  pub many-up : (m n : ℕ) → m ≤ n → howMany p m ≤ howMany p n
-  unfolding howMany
-  many-up m = le-ind (λ n. howMany p m ≤ howMany p n) (omega arith) (λ n h l. omega arith)
-
-  pub many-all : ((k : ℕ) → p k ≡ true) → (m : ℕ) → howMany p m ≡ m
-  unfolding howMany
-  many-all all zero = refl
-  many-all all (suc m) = rw (all m, many-all all m) (omega arith)
 
   pub first-some : (m : ℕ) → somewhere p m ≡ true → IsFirst p m (first p m)
   unfolding first somewhere

@@ -1,15 +1,13 @@
--- The first mean out of range of a series (Temperature of a day), a series with none, mean by mean, and one that serves.
+-- A series with no mean out of range (Temperature of a day), mean by mean, and one that serves.
 -- Assumes nothing.
 use mathlib.Core.Path.{_≡_, refl}
 use mathlib.Core.Bool.{Bool, true, false, _&&_}
 use mathlib.Core.List.{List, [], _∷_}
-use Prim.Native.Nat.{ℕ, zero, suc, _+_, _≤_, _<_}
-use native.Mathlib.Numerals.{add-one}
+use Prim.Native.Nat.{ℕ, zero, suc, _≤_, _<_}
 use native.Mathlib.Omega.{arith}
 use borrow.Author.Tests.{ltb-false, leb-true}
 use lib.IntN.{ℤ, pos}
-use lib.ListN.{length, getD, drop}
-use lib.Seq.{drop-cons}
+use lib.ListN.{length, getD}
 use Rattle.profile.specs.Limits.{inRange}
 use Rattle.weights.specs.Means.{firstOut, someOut}
 use Rattle.weights.specs.Choose.{serves}
@@ -27,13 +25,6 @@ from (t ∷ ts) all i h = go (inRange t) refl (from ts) i h
     go false e rest i h =
         let p : firstOut (t ∷ ts) ≡ 0 = rw e in
         absurd (omega arith)
-
--- the first mean out of range of the rest from k on: the mean at k, or that of the rest after it
-pub first-here : (s : List ℤ) (k : ℕ) → k < length s → inRange (getD s k (pos 0)) ≡ false → firstOut (drop k s) ≡ 0
-first-here s k h e = rw (drop-cons s k (pos 0), e)
-
-pub first-past : (s : List ℤ) (k : ℕ) → k < length s → inRange (getD s k (pos 0)) ≡ true → firstOut (drop k s) ≡ suc (firstOut (drop (k + 1) s))
-first-past s k h e = rw (drop-cons s k (pos 0), e, add-one)
 
 pub all-in : (s : List ℤ) → someOut s ≡ false → (i : ℕ) → i < length s → inRange (getD s i (pos 0)) ≡ true
 all-in s e = from s (ltb-false _ _ e)

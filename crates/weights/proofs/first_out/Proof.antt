@@ -3,15 +3,18 @@
 use borrow.Author.Needs.{needs, sfits-of}
 use borrow.Author.Tests.{not-true, not-false}
 use mathlib.Core.Path.{_≡_, refl, sym, _∙_, ap}
-use Prim.Native.Nat.{_+_, _-_, _≤_}
+use mathlib.Core.Bool.{true, false}
+use mathlib.Core.List.{List}
+use Prim.Native.Nat.{ℕ, suc, _+_, _-_, _≤_, _<_}
+use native.Mathlib.Numerals.{add-one}
 use native.Mathlib.Omega.{arith}
-use lib.IntN.{pos}
+use lib.IntN.{ℤ, pos}
 use lib.ListN.{length, drop, getD, drop-of-length-le}
+use lib.Seq.{drop-cons}
 use mir.Facts.{toZ-ofZ}
 use mir.Syntax.{w16}
 use Rattle.profile.specs.Limits.{inRange}
 use Rattle.weights.specs.Means.{firstOut}
-use Rattle.weights.proofs.Series.{first-here, first-past}
 use Rattle.weights.proofs.first_out.Statement.{statement}
 use Rattle.weights.proofs.first_out.Tie as tie
 
@@ -20,6 +23,13 @@ Inv-loop means k₀ k = (k ≤ length means) × (firstOut means ≡ k + firstOut
 
 abbrev μ-loop : tie.MeasureT-loop
 μ-loop means k₀ k = length means - k
+
+-- the rest of the series begins with the mean at k
+here : (s : List ℤ) (k : ℕ) → k < length s → inRange (getD s k (pos 0)) ≡ false → firstOut (drop k s) ≡ 0
+here s k h e = rw (drop-cons s k (pos 0), e)
+
+past : (s : List ℤ) (k : ℕ) → k < length s → inRange (getD s k (pos 0)) ≡ true → firstOut (drop k s) ≡ suc (firstOut (drop (k + 1) s))
+past s k h e = rw (drop-cons s k (pos 0), e, add-one)
 
 asked : (c : tie.After-in-range Inv-loop μ-loop)
     → c .in-range .result ≡ inRange (getD (c .before .before .before .before .args .means .now) (c .before .before .before .loop .k) (pos 0))
@@ -40,7 +50,7 @@ in-range-requires c κs = search needs
 returns : tie.Need-returns Inv-loop μ-loop
 returns c =
     let a = c .before .before .before .before in
-    let h = first-here (a .before .args .means .now) (a .loop .k) (omega arith) (sym (asked (c .before)) ∙ not-true _ (c .if1 .taken)) in
+    let h = here (a .before .args .means .now) (a .loop .k) (omega arith) (sym (asked (c .before)) ∙ not-true _ (c .if1 .taken)) in
     record { gives = omega (arith, h); stays = refl }
 
 add-k : tie.Need-add-k Inv-loop μ-loop
@@ -52,7 +62,7 @@ loop-less c = omega arith
 loop-again : tie.Need-loop-again Inv-loop μ-loop
 loop-again c =
     let a = c .before .before .before .before in
-    let h = first-past (a .before .args .means .now) (a .loop .k) (omega arith) (sym (asked (c .before)) ∙ not-false _ (c .if1 .left)) in
+    let h = past (a .before .args .means .now) (a .loop .k) (omega arith) (sym (asked (c .before)) ∙ not-false _ (c .if1 .left)) in
     (omega arith, omega (arith, h))
 
 returns-2 : tie.Need-returns-2 Inv-loop μ-loop

@@ -6,9 +6,9 @@ use native.Mathlib.Omega.{arith}
 use native.Mathlib.Numerals.{add-one}
 use lib.ListN.{length}
 use Rattle.common.specs.Below.{howMany}
-use Rattle.common.proofs.Below.{many-most}
 use Rattle.account.specs.Slices.{readsAt}
 use Rattle.casewriter.specs.File.{cutsAt}
+use Rattle.casewriter.proofs.Listed.{many-most}
 use Rattle.casewriter.proofs.sections.count_marks.Statement.{statement}
 use Rattle.casewriter.proofs.sections.count_marks.Tie as tie
 
