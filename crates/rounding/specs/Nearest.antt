@@ -14,3 +14,8 @@ pub record IsNearest (x d q : ℕ) : Type 0 where
 -- where d is above 0 there is one such q, `nearest x d` (proofs/Laws, `one-nearest`)
 abbrev pub OneNearest : Type 0
 OneNearest = (x d : ℕ) → 0 < d → IsNearest x d (nearest x d) × ((q : ℕ) → IsNearest x d q → q ≡ nearest x d)
+
+-- K3: "However a statement rounds now, add half the divisor, rounded down, before dividing, and test no remainder. Every figure is nearest
+-- as before, shown once for all amounts, at odd and even divisors." (proofs/Laws, `half-added`)
+abbrev pub HalfAdded : Type 0
+HalfAdded = (x d : ℕ) → (x + d / 2) / d ≡ nearest x d

@@ -80,12 +80,20 @@ fn weight_sum(weights: &[u32], p: usize, q: usize) -> u64
     sum
 }
 
+// A cut's share of the energy e between two readings, to the nearest Wh: one addition and one division, and no remainder is tested (K3).
+fn rounded_share(e: u64, zk: u64, z: u64) -> u64
+    requires { ⌜ Splittable 0 e zk z ⌝ }
+    ensures { λ r. ⌜ r ≡ roundedShare e zk z ⌝ }
+{
+    (e * zk + z / 2) / z
+}
+
 // What a cut has between two readings: the earlier reading's count `low`, and its share of the energy e between them.
 fn cut_count(low: u64, e: u64, zk: u64, z: u64) -> u64
     requires { ⌜ Splittable low e zk z ⌝ }
     ensures { λ r. ⌜ r ≡ low + roundedShare e zk z ⌝ }
 {
-    low + rounding::nearest_of(e * zk, z)
+    low + rounded_share(e, zk, z)
 }
 
 // Writes the part that ends at boundary `end`, which has `count`.

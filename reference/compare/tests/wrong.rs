@@ -225,20 +225,25 @@ impl Library for Wrong {
                 wh[1..].fill(0);
                 return (DONE, 1);
             }
-            "each part rounded alone" | "halves down" if answer == DONE => {
+            "each part rounded alone" | "halves down" | "half of Z rounded up" | "half of E added" if answer == DONE => {
                 let mut start = 0;
                 for i in 0..parts {
                     let p = (0..=from[i] as usize).rev().find(|k| marks[*k] >= 2).unwrap();
                     let q = (to[i] as usize..marks.len()).find(|k| marks[*k] >= 2).unwrap();
                     let (energy, z) = ((counts[q] - counts[p]) as u128, whole(p, q));
                     let upto = energy * whole(p, to[i] as usize);
-                    if self.is("halves down") {
+                    let added = match self.0 {
+                        "halves down" => (z - 1) / 2,
+                        "half of Z rounded up" => (z + 1) / 2,
+                        _ => energy / 2,
+                    };
+                    if self.is("each part rounded alone") {
+                        wh[i] = ((2 * energy * whole(from[i] as usize, to[i] as usize) + z) / (2 * z)) as u64;
+                    } else {
                         start = if from[i] as usize == p { 0 } else { start };
-                        let end = (2 * upto + z - 1) / (2 * z);
+                        let end = (upto + added) / z;
                         wh[i] = (end - start) as u64;
                         start = end;
-                    } else {
-                        wh[i] = ((2 * energy * whole(from[i] as usize, to[i] as usize) + z) / (2 * z)) as u64;
                     }
                 }
             }
@@ -356,7 +361,7 @@ impl Library for Wrong {
 }
 
 /// Faults that a list of calls shows by demand 3 alone.
-const IN_LISTS: [&str; 18] = [
+const IN_LISTS: [&str; 20] = [
     "reading stores nothing",
     "second reading done",
     "equal count dropped as a bounce",
@@ -373,6 +378,8 @@ const IN_LISTS: [&str; 18] = [
     "one part for the lot",
     "each part rounded alone",
     "halves down",
+    "half of Z rounded up",
+    "half of E added",
     "cut outside makes a part",
     "first statement repeated",
 ];

@@ -122,7 +122,7 @@ fn count_readings(marks: &[u8]) -> usize {
     marks.iter().filter(|mark| is_reading(**mark)).count()
 }
 
-/// x / d, an exact half going up; nothing is doubled.
+/// x / d, an exact half going up; nothing is doubled. The proved statement tests no remainder since K3: this is how it rounded before.
 fn nearest(x: u64, d: u64) -> u64 {
     let (whole, rest) = (x / d, x % d);
     if rest < d - rest {
