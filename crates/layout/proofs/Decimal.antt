@@ -4,6 +4,7 @@ use Prim.Native.Nat.{ℕ, zero, suc, _-_, _*_, _/_, _%_, _^_, _≤_, _<_}
 use mathlib.Core.Path.{_≡_, refl, sym, ap, _∙_}
 use mathlib.Core.Bool.{Bool, true, false, cond}
 use mathlib.Core.List.{List, [], _∷_, _++_}
+use native.Mathlib.Decide.{decLe}
 use native.Mathlib.Nat.{div-lt-iff-lt-mul, le-div-iff-mul-le, pow-suc, pow-le-pow-right}
 use native.Mathlib.Numerals.{add-one, sub-one}
 use native.Mathlib.Omega.{arith}
@@ -82,3 +83,16 @@ one-fewest n j k f g =
 pub fewest-digits : FewestDigits
 unfolding decimal
 fewest-digits n l = let fewest = digits-fewest 19 n (omega (arith, l)) in (fewest, λ k f. one-fewest n k _ f fewest)
+
+-- a number has a digit, and below 10 ^ k at most k of them
+pub some-digit : (n : ℕ) → n < 2 ^ 64 → 0 < length (decimal n)
+some-digit n bits = fewest-digits n bits .0 .0
+
+pub few-digits : (k n : ℕ) → 0 < k → n < 10 ^ k → n < 2 ^ 64 → length (decimal n) ≤ k
+few-digits k n some below bits = by (decLe (length (decimal n)) k)
+  where
+    by : Dec (length (decimal n) ≤ k) → length (decimal n) ≤ k
+    by (yes h) = h
+    by (no more) =
+        let inside : k ≤ length (decimal n) - 1 = omega arith in
+        absurd (omega (arith, below, fewest-digits n bits .0 .2 (omega arith), pow-le-pow-right {n = 10} (lit< tt) inside))

@@ -1,11 +1,11 @@
 -- A statement that is given is one that has a text (Case file): none of the ways in which there could be none arises. Assumes nothing.
-use Prim.Native.Nat.{ℕ, zero, suc, _+_, _-_, _≤_, _<_}
-use mathlib.Core.Path.{_≡_, ap}
+use Prim.Native.Nat.{ℕ, zero, suc, _+_, _-_, _≤_}
+use mathlib.Core.Path.{_≡_}
 use mathlib.Core.Bool.{false}
 use mathlib.Core.List.{List, map}
+use mathlib.Core.Logic.{⊎-elim}
 use native.Mathlib.Omega.{arith}
-use native.Mathlib.Nat.{not-suc-le-zero}
-use native.Mathlib.Decide.{decLt}
+use native.Mathlib.Nat.{eq-or-lt-of-le, le-of-suc-le-suc}
 use borrow.Author.Tests.{le-ltb, ltb-false, ne-eqb}
 use lib.Dec.{ltb}
 use lib.ListN.{length, getD, replicate, length-append, length-map}
@@ -24,23 +24,25 @@ use Rattle.statement.proofs.Parts.{parts-fit}
 use Rattle.statement.proofs.Successive.{successive}
 use Rattle.statement.proofs.Facts.{sums-up}
 use Rattle.layout.specs.Text.{noStatement}
+use Rattle.layout.proofs.Sums.{total-more}
 
--- a part is no more than the total
-total-grows : (o : Outputs) (m i : ℕ) → i < m → getD (o .wh) i 0 ≤ total o m
+-- the total never falls
+pub total-rises : (o : Outputs) (i m : ℕ) → i ≤ m → total o i ≤ total o m
 unfolding total
-total-grows o zero i h = absurd (not-suc-le-zero h)
-total-grows o (suc m) i h = by (decLt i m) (total-grows o m i)
-  where
-    by : Dec (i < m) → (i < m → getD (o .wh) i 0 ≤ total o m) → getD (o .wh) i 0 ≤ total o m + getD (o .wh) m 0
-    by (yes l) more = omega (arith, more l)
-    by (no n) more =
-        let same : i ≡ m = omega arith in
-        omega (arith, ap (λ (k : ℕ). getD (o .wh) k 0) same)
+total-rises o i zero h = let none : i ≡ 0 = omega arith in rw none (omega arith)
+total-rises o i (suc m) h = ⊎-elim (λ end. rw end (omega arith)) (λ l. omega (arith, total-rises o i m (le-of-suc-le-suc l))) (eq-or-lt-of-le h)
 
 long-enough : (f : Part → ℕ) (n : ℕ) (ps : List Part) → ltb (length (filled n (map f ps))) (length ps) ≡ false
 long-enough f n ps =
     le-ltb (length (filled n (map f ps))) (length ps)
     (omega (arith, length-append (map f ps) (replicate (n - length (map f ps)) 0), length-map ps f))
+
+-- the Wh of a statement that is given are within the limit
+pub within-limit : (a : Account) → Checked a → tooFewReadings (days a) (shown a .readings) ≡ false →
+    total (statementOf (a .weights) (shown a)) (length (partsOf (a .weights) (shown a))) ≤ energyMost
+within-limit a ok some =
+    let two = ltb-false (howMany (shown a .readings .at) (suc (days a))) 2 some in
+    omega (arith, sums-up (a .weights) (shown a) (valid-of-sound a (ok .sound)) two, sound-parts a (ok .sound) .energy)
 
 pub in-full : (a : Account) → Checked a → tooFewReadings (days a) (shown a .readings) ≡ false →
     noStatement (statementOf (a .weights) (shown a)) (length (partsOf (a .weights) (shown a))) ≡ false
@@ -48,10 +50,9 @@ in-full a ok some =
     let two = ltb-false (howMany (shown a .readings .at) (suc (days a))) 2 some in
     let ps = partsOf (a .weights) (shown a) in
     let o = statementOf (a .weights) (shown a) in
-    let sum = sums-up (a .weights) (shown a) (valid-of-sound a (ok .sound)) two in
     let few = parts-fit (a .weights) (shown a) (days a) in
     let small : somewhere (λ i. ltb energyMost (getD (o .wh) i 0)) (length ps) ≡ false =
-    none-is _ (length ps) (λ i h. le-ltb energyMost (getD (o .wh) i 0) (omega (arith, total-grows o (length ps) i h, sum, sound-parts a (ok .sound) .energy))) in
+    none-is _ (length ps) (λ i h. le-ltb energyMost (getD (o .wh) i 0) (omega (arith, total-rises o (i + 1) (length ps) (omega arith), total-more o i, within-limit a ok some))) in
     simp (
       ne-eqb (length ps) 0 (λ none. omega (arith, successive (a .weights) (shown a) two .not-empty)),
       le-ltb spanMost (length ps) (omega (arith, few, fit a (ok .fits) .most)),

@@ -2,7 +2,7 @@
 pub mod Decimal
 pub mod ReadBack
 pub mod Laid
-mod Sums
+pub mod Sums
 pub mod Full
 pub mod Texts
 pub mod Fits

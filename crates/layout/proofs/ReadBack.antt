@@ -1,11 +1,12 @@
 -- Numbers printed and read again (Case file, the program's output): their digits are digits, and have their value. Assumes nothing.
 use Prim.Native.Nat.{ℕ, zero, suc, _+_, _-_, _*_, _/_, _%_, _^_, _<_}
-use mathlib.Core.Path.{_≡_, refl, _∙_}
+use mathlib.Core.Path.{_≡_, refl, ap₂, _∙_}
 use mathlib.Core.Bool.{Bool, true, false, cond, _&&_}
 use mathlib.Core.List.{List, [], _∷_, _++_}
 use native.Mathlib.Omega.{arith}
 use borrow.Author.Tests.{le-leb, leb-true, ltb-true}
 use lib.Dec.{leb, ltb}
+use lib.ListN.{length}
 use Rattle.common.proofs.Below.{both}
 use Rattle.layout.specs.Text.{digit, digits, decimal, isDigit, allDigits, valueAfter, ReadBack}
 use Rattle.layout.proofs.Decimal.{fewer}
@@ -52,6 +53,22 @@ one-of-ten [] ys x all =
     let high = leb-true x 57 (test .1) in
     (x - 48, omega arith, omega arith)
 one-of-ten (y ∷ xs) ys x all = one-of-ten xs ys x (both (isDigit y) (allDigits (xs ++ (x ∷ ys))) all .1)
+
+-- as many digits of the same value are the same
+pub same-digits : (v w : ℕ) (xs ys : List ℕ) → allDigits xs ≡ true → allDigits ys ≡ true → length xs ≡ length ys → valueAfter v xs ≡ valueAfter w ys →
+    (v ≡ w) × (xs ≡ ys)
+unfolding allDigits valueAfter
+same-digits v w [] [] all-x all-y long value = (value, refl)
+same-digits v w [] (y ∷ ys) all-x all-y long value = absurd (omega arith)
+same-digits v w (x ∷ xs) [] all-x all-y long value = absurd (omega arith)
+same-digits v w (x ∷ xs) (y ∷ ys) all-x all-y long value =
+    let (digit-x, rest-x) = both (isDigit x) (allDigits xs) all-x in
+    let (digit-y, rest-y) = both (isDigit y) (allDigits ys) all-y in
+    let (before, rest) = same-digits (v * 10 + (x - 48)) (w * 10 + (y - 48)) xs ys rest-x rest-y (omega arith) value in
+    let (x-low, x-high) = both (leb 48 x) (leb x 57) digit-x in
+    let (y-low, y-high) = both (leb 48 y) (leb y 57) digit-y in
+    let same : x ≡ y = omega (arith, leb-true 48 x x-low, leb-true x 57 x-high, leb-true 48 y y-low, leb-true y 57 y-high) in
+    (omega (arith, leb-true 48 x x-low, leb-true x 57 x-high, leb-true 48 y y-low, leb-true y 57 y-high), ap₂ (λ (z : ℕ) (zs : List ℕ). z ∷ zs) same rest)
 
 pub read-back : ReadBack
 unfolding decimal

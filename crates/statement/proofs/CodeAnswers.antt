@@ -38,7 +38,7 @@ pub counted : (a : Account) → Checked a → (r : ℕ) → r ≡ howMany (reads
 counted a c r is = is ∙ ap (howMany (readsAt (a .marks))) (checked-fit a c .marks ∙ add-one (days a))
 
 -- outputs that are each n long fit
-long-fit : (n : ℕ) (o : Outputs) → Long n o → unfitOutputs n o ≡ false
+pub long-fit : (n : ℕ) (o : Outputs) → Long n o → unfitOutputs n o ≡ false
 long-fit n o l = rw (eq-eqb _ _ (l .from), eq-eqb _ _ (l .to), eq-eqb _ _ (l .wh))
 
 module _ (a : Account) (o : Outputs) where

@@ -13,3 +13,4 @@ pub mod CodeWritten
 pub mod CodeInterval
 pub mod CodeFill
 pub mod CodeAnswers
+pub mod Told

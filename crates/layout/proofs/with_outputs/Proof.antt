@@ -86,7 +86,7 @@ returns c =
     let tn = length-take-le n (a .to .now) (pre .1) in
     let wn = length-take-le n (a .wh .now) (pre .2) in
     let says = answered-says (account (a .weights .now) (a .marks .now) (a .counts .now)) (outputs (take n (a .from .now)) (take n (a .to .now)) (take n (a .wh .now)))
-    fn tn wn _ _ (outputs f t w) (s .statement .ensures) in
+    (record { from = fn; to = tn; wh = wn }) _ _ (outputs f t w) (s .statement .ensures) in
     let fs = take-at f (drop n (a .from .now)) n (s .statement .kept .1 .1 .1 .0 ∙ fn) in
     let ts = take-at t (drop n (a .to .now)) n (s .statement .kept .1 .1 .1 .1 .0 ∙ tn) in
     let ws = take-at w (drop n (a .wh .now)) n (s .statement .kept .1 .1 .1 .1 .1 .0 ∙ wn) in
