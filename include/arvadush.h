@@ -10,11 +10,11 @@
  * Answers
  *   A call checks what it is given. It is done (0), or it is refused with a number of the table below.
  *   The table has the order in which a call checks. A call checks only the rows that its comment lists.
- *   arvadush_read goes through the file from front to back instead.
+ *   arvadush_read goes through the file from front to back instead, and arvadush_page checks the length of the page last.
  *   A refused call leaves every slice as it was, unless its comment says otherwise.
  *   A value that a call does not give is 0. So is a place, unless its comment says otherwise.
  *
- *    3  n is outside 1 to 1,096, or a slice does not have the length for n
+ *    3  n is outside 1 to 1,096, or a slice does not have the length for n (a page: for its parts)
  *    1  the profile is above 9
  *    2  the weekday is above 6
  *    4  a mean or a temperature is outside -5,000 to 3,999
@@ -248,6 +248,19 @@ arvadush_outcome arvadush_read(const uint8_t *file, size_t file_len, uint32_t *w
  */
 arvadush_outcome arvadush_write(uint8_t profile, uint8_t weekday, const int16_t *means, size_t means_len, const uint8_t *marks,
                                 size_t marks_len, const uint64_t *counts, size_t counts_len, uint8_t *out, size_t out_len);
+
+/* Writes the statement of an account as a page for the post. The value is the number of bytes. n is weights_len.
+ * The page has 41 * (parts + 1) bytes: a heading, and a line for each part. arvadush_statement gives the number of parts.
+ * A line has 40 characters and a line feed: from in 6 columns, to in 6, Wh in 14, and the sum of the Wh up to and including this line in 14.
+ * Numbers and the words of the heading are right-aligned with spaces. No page has more than 44,977 bytes.
+ * Refused, in this order:
+ *   3  n is outside 1 to 1,096, or marks or counts are not n + 1 long
+ *   5  the account is unsound
+ *  11  there are fewer than two readings; all of page is then zero, whatever its length
+ *   3  page is not 41 * (parts + 1) long
+ */
+arvadush_outcome arvadush_page(const uint32_t *weights, size_t weights_len, const uint8_t *marks, size_t marks_len, const uint64_t *counts,
+                               size_t counts_len, uint8_t *page, size_t page_len);
 
 /* Writes the printed statement of so many parts to the start of out.
  * Returns the length of the whole text. If this is above out_len, only the first out_len bytes are written.

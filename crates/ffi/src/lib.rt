@@ -21,6 +21,7 @@ ghost use Rattle.customer.specs.Customer.{CustomerMet, AmountMet};
 ghost use Rattle.casefile.specs.Reader.{ReadMet};
 ghost use Rattle.casewriter.specs.Writer.{WriteMet};
 ghost use Rattle.layout.specs.Text.{LaidOut, TextMet, statementText, refusalText};
+ghost use Rattle.page.specs.Call.{PageMet};
 ghost use Rattle.ffi.specs.Calls.{ChooseReturned};
 
 // The table's number (0 is done), the place or index that goes with it, and the value; 0 where there is none.
@@ -237,6 +238,19 @@ pub extern "C" fn arvadush_write(
     ensures { λ r. ⌜ WriteMet profile weekday (now (means .entry)) (now (marks .entry)) (now (counts .entry)) (now (out .entry)) (r .number) (r .place) (r .value) (now (out .exit)) (now (means .exit)) (now (marks .exit)) (now (counts .exit)) ⌝ }
 {
     returned::file(casewriter::write_case(profile, weekday, means, marks, counts, out))
+}
+
+// Lays out the page of an account; its value is the number of bytes.
+#[no_mangle]
+pub extern "C" fn arvadush_page(
+    weights: &[u32],
+    marks: &[u8],
+    counts: &[u64],
+    page: &mut [u8],
+) -> Outcome
+    ensures { λ r. ⌜ PageMet (accountIn (weights .entry) (marks .entry) (counts .entry)) (now (page .entry)) (r .number) (r .value) (accountIn (weights .exit) (marks .exit) (counts .exit)) (now (page .exit)) × (r .place ≡ 0) ⌝ }
+{
+    returned::page(page::page(weights, marks, counts, page))
 }
 
 // The text of a statement of so many parts, at the start of out; the length of the whole text.

@@ -3,6 +3,7 @@ use crate::Outcome;
 use casefile::CaseAnswer;
 use casewriter::WriteAnswer;
 use customer::CustomerAnswer;
+use page::PageAnswer;
 use profile::ValueAnswer;
 use profile::WeightAnswer;
 use statement::StatementAnswer;
@@ -17,6 +18,7 @@ ghost use Rattle.statement.specs.Call as call;
 ghost use Rattle.customer.specs.Customer as customer;
 ghost use Rattle.casefile.specs.Reader as reader;
 ghost use Rattle.casewriter.specs.Writer as writer;
+ghost use Rattle.page.specs.Call as laid;
 
 pub(crate) fn temperature_number(answer: TemperatureAnswer) -> u8
     ensures { λ r. ⌜ r ≡ four.number answer ⌝ }
@@ -147,6 +149,15 @@ pub(crate) fn file(answer: WriteAnswer) -> Outcome
     match answer {
         WriteAnswer::Length(size) => outcome(0, 0, size as u64),
         WriteAnswer::Refused(number, place) => outcome(number, place, 0),
+    }
+}
+
+pub(crate) fn page(answer: PageAnswer) -> Outcome
+    ensures { λ r. ⌜ r ≡ outcomeOf (laid.number answer) 0 (laid.size answer) ⌝ }
+{
+    match answer {
+        PageAnswer::Bytes(bytes) => outcome(0, 0, bytes as u64),
+        PageAnswer::Refused(number) => outcome(number, 0, 0),
     }
 }
 

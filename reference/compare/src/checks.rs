@@ -2,6 +2,7 @@
 
 use crate::casefiles::{Case, ReadBack, ReadCall, Rewrite, WriteCall};
 use crate::library::Library;
+use crate::pages::PageCall;
 use model::history::Call;
 use model::{Answer, Boundary, Mean, ProfileNumber, Weekday, DONE};
 use std::fmt;
@@ -75,6 +76,10 @@ pub enum Input {
     },
     Rewrite(Rewrite),
     ReadBack(ReadBack),
+    Page {
+        account: Account,
+        page: File,
+    },
     StatementText {
         outputs: Outputs,
         parts: usize,
@@ -263,6 +268,7 @@ impl Input {
             Input::Write { .. } => "case file written",
             Input::Rewrite(..) => "case file rewritten",
             Input::ReadBack(..) => "case file read back",
+            Input::Page { .. } => "page",
             Input::StatementText { .. } => "statement text",
             Input::RefusalText { .. } => "refusal text",
         }
@@ -313,6 +319,7 @@ impl Input {
             Input::Write { case, out } => WriteCall::new(library, case, out).outcome(),
             Input::Rewrite(trip) => trip.outcome(library),
             Input::ReadBack(trip) => trip.outcome(library),
+            Input::Page { account, page } => PageCall::new(library, account, page).outcome(),
             Input::StatementText { outputs, parts, out } => {
                 let (outputs, mut out) = (LentOutputs::new(outputs), Lent::new(out));
                 let LentOutputs { from, to, wh } = &outputs;

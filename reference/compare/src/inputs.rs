@@ -447,6 +447,28 @@ fn case(random: &mut Random) -> (Case, File) {
     (Case { profile: profile(random), weekday: weekday(random), means, marks, counts }, out)
 }
 
+/// The parts that these marks make: one from each marked boundary between the first reading and the last.
+fn parts(marks: &[u8]) -> usize {
+    let first = marks.iter().position(|mark| *mark >= 2).unwrap_or(0);
+    let last = marks.iter().rposition(|mark| *mark >= 2).unwrap_or(0);
+    marks[first..last].iter().filter(|mark| **mark != 0).count()
+}
+
+/// An account and a page for it: mostly of the right length, else a byte more or less, of a few bytes, of other lines, or any.
+fn page(random: &mut Random) -> Input {
+    let account = account(random);
+    let right = 41 * (parts(&account.marks) + 1);
+    let length = match random.below(16) {
+        0 => right - 1,
+        1 => right + 1,
+        2 => random.pick(&[0, 5, 41]),
+        3 => 41 * random.length(0, right / 41 + 2),
+        4 => random.length(0, 2 * right),
+        _ => right,
+    };
+    Input::Page { account, page: File(bytes(random, length)) }
+}
+
 fn choose(random: &mut Random) -> Input {
     let n = match random.below(12) {
         0 => random.pick(&[0, 1_097, 1_100, 65_536, usize::MAX, usize::MAX - 2, usize::MAX - 3]),
@@ -683,7 +705,7 @@ fn text(random: &mut Random) -> Input {
 
 /// One random input.
 pub fn input(random: &mut Random) -> Input {
-    match random.below(112) {
+    match random.below(118) {
         0..=5 => Input::Temperature([any_mean(random), any_mean(random), any_mean(random), any_mean(random)]),
         6..=11 => choose(random),
         12..=16 => Input::Value(profile(random), any_mean(random)),
@@ -722,9 +744,10 @@ pub fn input(random: &mut Random) -> Input {
             Input::Write { case, out }
         }
         104..=107 => rewrite(random),
-        _ => {
+        108..=111 => {
             let (case, out) = case(random);
             Input::ReadBack(ReadBack { case, out, slices: slices(random) })
         }
+        _ => page(random),
     }
 }

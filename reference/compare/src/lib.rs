@@ -5,6 +5,7 @@ pub mod checks;
 pub mod demand3;
 pub mod inputs;
 pub mod library;
+pub mod pages;
 pub mod programs;
 #[cfg(feature = "linked")]
 pub mod proved;

@@ -1,7 +1,7 @@
 //! The exported calls of the paper as one trait, for the model and the straight versions; the proved one is beside.
 
 use additions::texts::{lay_out, statement_text};
-use model::{account, casefile, customer, statement, temperature, value};
+use model::{account, casefile, customer, page, statement, temperature, value};
 use model::{Answer, Boundary, Mean, ProfileNumber, Weekday};
 
 /// One method for each exported call; the answer is the table's number and place. The two texts in a lent buffer
@@ -46,6 +46,7 @@ pub trait Library {
         counts: &[u64],
         out: &mut [u8],
     ) -> (Answer, usize);
+    fn page(&self, weights: &[u32], marks: &[u8], counts: &[u64], page: &mut [u8]) -> (Answer, usize);
     fn statement_text(&self, from: &[u16], to: &[u16], wh: &[u64], parts: usize, out: &mut [u8]) -> usize {
         lay_out(&statement_text(from, to, wh, parts), out)
     }
@@ -59,8 +60,9 @@ type Reading = fn(&[u32], &mut [u8], &mut [u64], Boundary, u64) -> Answer;
 type Statement = fn(&[u32], &[u8], &[u64], &mut [u16], &mut [u16], &mut [u64]) -> (Answer, usize);
 type Read = fn(&[u8], &mut [u32], &mut [u8], &mut [u64]) -> (Answer, usize);
 type Write = fn(ProfileNumber, Weekday, &[Mean], &[u8], &[u64], &mut [u8]) -> (Answer, usize);
+type Page = fn(&[u32], &[u8], &[u64], &mut [u8]) -> (Answer, usize);
 
-/// A version in Rust: the five timed calls are its own, the others the model's.
+/// A version in Rust: the six timed calls are its own, the others the model's.
 pub struct Version {
     name: &'static str,
     weights: Weights,
@@ -68,6 +70,7 @@ pub struct Version {
     statement: Statement,
     read: Read,
     write: Write,
+    page: Page,
 }
 
 pub const MODEL: Version = Version {
@@ -77,6 +80,7 @@ pub const MODEL: Version = Version {
     statement: statement::statement,
     read: casefile::read,
     write: casefile::write,
+    page: page::page,
 };
 
 pub const PLAIN: Version = Version {
@@ -86,6 +90,7 @@ pub const PLAIN: Version = Version {
     statement: straight::plain::statement,
     read: straight::plain::read,
     write: straight::plain::write,
+    page: straight::plain::page,
 };
 
 pub const SAME: Version = Version {
@@ -95,6 +100,7 @@ pub const SAME: Version = Version {
     statement: straight::same::statement,
     read: straight::same::read,
     write: straight::same::write,
+    page: straight::same::page,
 };
 
 impl Library for Version {
@@ -168,6 +174,9 @@ impl Library for Version {
         out: &mut [u8],
     ) -> (Answer, usize) {
         (self.write)(profile, weekday, means, marks, counts, out)
+    }
+    fn page(&self, weights: &[u32], marks: &[u8], counts: &[u64], page: &mut [u8]) -> (Answer, usize) {
+        (self.page)(weights, marks, counts, page)
     }
 }
 

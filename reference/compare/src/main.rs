@@ -1,6 +1,7 @@
 //! Compares every exported call with the model on random and damaged inputs; any difference fails. Serves every section.
 //!
-//! compare [--seed N] [--inputs N] [--first I] [--statement PROGRAM] [--console PROGRAM] [--rewrite PROGRAM] [--runs N]
+//! compare [--seed N] [--inputs N] [--first I] [--statement PROGRAM] [--console PROGRAM] [--rewrite PROGRAM] [--page PROGRAM]
+//! [--runs N]
 //! The same seed gives the same inputs; `--first I --inputs 1` repeats input number I alone.
 
 use compare::checks::Input;
@@ -21,12 +22,14 @@ struct Options {
     statement: Option<String>,
     console: Option<String>,
     rewrite: Option<String>,
+    page: Option<String>,
 }
 
 fn options() -> Options {
     let now = SystemTime::now().duration_since(UNIX_EPOCH).unwrap().as_nanos() as u64;
-    let (statement, console, rewrite) = (None, None, None);
-    let mut options = Options { seed: now, inputs: 2_000_000, first: 0, runs: 2_000, statement, console, rewrite };
+    let (statement, console, rewrite, page) = (None, None, None, None);
+    let mut options =
+        Options { seed: now, inputs: 2_000_000, first: 0, runs: 2_000, statement, console, rewrite, page };
     let mut words = std::env::args().skip(1);
     while let Some(word) = words.next() {
         let value = words.next().unwrap_or_else(|| panic!("{word} needs a value"));
@@ -39,6 +42,7 @@ fn options() -> Options {
             "--statement" => options.statement = Some(value),
             "--console" => options.console = Some(value),
             "--rewrite" => options.rewrite = Some(value),
+            "--page" => options.page = Some(value),
             _ => panic!("unknown option {word}"),
         }
     }
@@ -54,7 +58,7 @@ fn print_tally(tally: &Tally) {
 }
 
 fn main() {
-    let Options { seed, inputs, first, runs, statement, console, rewrite } = options();
+    let Options { seed, inputs, first, runs, statement, console, rewrite, page } = options();
     let libraries = compared();
     let names: Vec<&str> = libraries.iter().map(|library| library.name()).collect();
     println!("model against {}, seed {seed}, {inputs} inputs from number {first}", names.join(" and "));
@@ -93,6 +97,10 @@ fn main() {
     }
     if let Some(program) = rewrite {
         let examples = programs::rewrite(&program, runs, seed, print);
+        println!("{examples} example files and {runs} others given to {program}");
+    }
+    if let Some(program) = page {
+        let examples = programs::page(&program, runs, seed, print);
         println!("{examples} example files and {runs} others given to {program}");
     }
     println!("{} differences, seed {seed}, {} s", differences.get(), start.elapsed().as_secs());

@@ -1,5 +1,5 @@
-//! Sections "Case file" and "Account and its calls", and change request K2: the built programs against what the model and
-//! its additions give.
+//! Sections "Case file" and "Account and its calls", and change requests K2 and K4: the built programs against what the
+//! model and its additions give.
 
 use crate::inputs;
 use crate::random::Random;
@@ -75,17 +75,48 @@ fn examples() -> Vec<(String, Vec<u8>)> {
     files
 }
 
-/// The example files, and then generated ones: a file that the reader takes comes back as it is. Returns the number of
-/// examples.
+/// The example files, and then generated ones. Returns the number of examples.
+fn case_files(
+    program: &str,
+    runs: u64,
+    seed: u64,
+    model: fn(&[u8]) -> Expected,
+    report: &mut impl FnMut(String),
+) -> usize {
+    let examples = examples();
+    examples.iter().for_each(|(path, file)| check(program, path, file, model(file), report));
+    compare(program, runs, seed, inputs::file, model, report);
+    examples.len()
+}
+
+/// A file that the reader takes comes back as it is.
 pub fn rewrite(program: &str, runs: u64, seed: u64, mut report: impl FnMut(String)) -> usize {
     let model = |file: &[u8]| match read(file, &mut [0; WEIGHTS], &mut [0; MARKS], &mut [0; COUNTS]) {
         (DONE, _) => (file.to_vec(), Some(0)),
         (answer, _) => (refusal_text(answer).into_bytes(), Some(1)),
     };
-    let examples = examples();
-    examples.iter().for_each(|(path, file)| check(program, path, file, model(file), &mut report));
-    compare(program, runs, seed, inputs::file, model, &mut report);
-    examples.len()
+    case_files(program, runs, seed, model, &mut report)
+}
+
+/// What the program `page` prints for a case file: the page, or the refusal of the reader or of the page.
+pub fn printed_page(file: &[u8]) -> Expected {
+    let (mut weights, mut marks, mut counts) = ([0; WEIGHTS], [0; MARKS], [0; COUNTS]);
+    let (mut answer, n) = read(file, &mut weights, &mut marks, &mut counts);
+    if answer == DONE {
+        let (weights, marks, counts) = (&weights[..n], &marks[..n + 1], &counts[..n + 1]);
+        let parts =
+            model::statement::statement(weights, marks, counts, &mut vec![0; n], &mut vec![0; n], &mut vec![0; n]).1;
+        let mut page = vec![0; 41 * (parts + 1)];
+        answer = model::page::page(weights, marks, counts, &mut page).0;
+        if answer == DONE {
+            return (page, Some(0));
+        }
+    }
+    (refusal_text(answer).into_bytes(), Some(1))
+}
+
+pub fn page(program: &str, runs: u64, seed: u64, mut report: impl FnMut(String)) -> usize {
+    case_files(program, runs, seed, printed_page, &mut report)
 }
 
 /// The stored script, and then generated ones.

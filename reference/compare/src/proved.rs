@@ -77,6 +77,8 @@ extern "C" {
         counts: *mut u64, _: usize) -> Outcome<u64>;
     fn arvadush_write(profile: ProfileNumber, weekday: Weekday, means: *const Mean, _: usize,
         marks: *const u8, _: usize, counts: *const u64, _: usize, out: *mut u8, _: usize) -> Outcome<u64>;
+    fn arvadush_page(weights: *const u32, _: usize, marks: *const u8, _: usize, counts: *const u64, _: usize,
+        page: *mut u8, _: usize) -> Outcome<u64>;
     fn arvadush_statement_text(from: *const u16, _: usize, to: *const u16, _: usize, wh: *const u64, _: usize,
         parts: usize, out: *mut u8, _: usize) -> usize;
     fn arvadush_refusal_text(number: u8, place: usize, out: *mut u8, _: usize) -> usize;
@@ -179,6 +181,13 @@ impl Library for Proved {
         let returned = unsafe {
             arvadush_write(profile, weekday, means.as_ptr(), means.len(), marks.as_ptr(), marks.len(),
                 counts.as_ptr(), counts.len(), out.as_mut_ptr(), out.len())
+        };
+        (returned.answer(), returned.value as usize)
+    }
+    fn page(&self, weights: &[u32], marks: &[u8], counts: &[u64], page: &mut [u8]) -> (Answer, usize) {
+        let returned = unsafe {
+            arvadush_page(weights.as_ptr(), weights.len(), marks.as_ptr(), marks.len(),
+                counts.as_ptr(), counts.len(), page.as_mut_ptr(), page.len())
         };
         (returned.answer(), returned.value as usize)
     }

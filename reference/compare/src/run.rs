@@ -2,6 +2,7 @@
 
 use crate::checks::{Input, Outcome};
 use crate::library::{Library, MODEL};
+use crate::pages::PageCall;
 use crate::random::Random;
 use crate::{demand3, inputs};
 use model::history::Call;
@@ -36,6 +37,7 @@ pub fn claim(input: &Input, library: &dyn Library) -> Result<(), String> {
         Input::List(account, calls) => ("demand 3", demand3::check(library, account, calls)),
         Input::Rewrite(trip) => ("K2, rewritten", trip.check(library)),
         Input::ReadBack(trip) => ("K2, read back", trip.check(library)),
+        Input::Page { account, page } => ("K4, page", PageCall::new(library, account, page).check(library)),
         _ => return Ok(()),
     };
     checked.map_err(|wrong| format!("{name}: {wrong}"))

@@ -1,6 +1,8 @@
-//! The stored outputs, section "Case file" and the console: each is byte for byte what the model or `additions` prints.
+//! The stored outputs, section "Case file", the console and change request K4: each is byte for byte what the model or
+//! `additions` prints.
 
 use additions::console::console;
+use compare::programs::printed_page;
 use model::casefile::program;
 use std::fs::{read, read_dir};
 
@@ -62,4 +64,11 @@ fn the_output_of_the_statement_program() {
 #[test]
 fn the_output_of_the_console() {
     assert_stored("examples/c/console.expected", &console(&bytes("examples/c/console.script")).text);
+}
+
+#[test]
+fn the_output_of_the_page_program() {
+    let (page, status) = printed_page(&bytes("examples/cases/year.case"));
+    assert_eq!(status, Some(0));
+    assert_stored("examples/c/page.expected", &String::from_utf8(page).unwrap());
 }

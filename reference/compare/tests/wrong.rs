@@ -1,11 +1,11 @@
-//! Sections "Buyer's note on contracts" and "Errors seen in other houses", and change requests K1 and K2: the comparison
+//! Sections "Buyer's note on contracts" and "Errors seen in other houses", and change requests K1, K2 and K4: the comparison
 //! finds each wrong library.
 
 use additions::texts::lay_out;
 use compare::library::{compared, Library, MODEL};
 use compare::programs;
 use compare::run::{claim, compare, input, one, Tally};
-use model::account::readings;
+use model::account::{lengths_fit, readings};
 use model::{refused, refused_at, Answer, Boundary, Mean, ProfileNumber, Weekday, DONE};
 use std::cell::RefCell;
 use std::ops::RangeInclusive;
@@ -62,6 +62,16 @@ impl Wrong {
 
 fn replace(bytes: &mut [u8], old: RangeInclusive<u8>, new: u8) {
     bytes.iter_mut().filter(|byte| old.contains(byte)).for_each(|byte| *byte = new)
+}
+
+/// Moves the text of each column of these lines to its left end.
+fn left_align(lines: &mut [u8]) {
+    for line in lines.chunks_mut(41) {
+        for column in [0..6, 6..12, 12..26, 26..40] {
+            let spaces = line[column.clone()].iter().take_while(|byte| **byte == b' ').count();
+            line[column].rotate_left(spaces);
+        }
+    }
 }
 
 impl Library for Wrong {
@@ -225,7 +235,9 @@ impl Library for Wrong {
                 wh[1..].fill(0);
                 return (DONE, 1);
             }
-            "each part rounded alone" | "halves down" | "half of Z rounded up" | "half of E added" if answer == DONE => {
+            "each part rounded alone" | "halves down" | "half of Z rounded up" | "half of E added"
+                if answer == DONE =>
+            {
                 let mut start = 0;
                 for i in 0..parts {
                     let p = (0..=from[i] as usize).rev().find(|k| marks[*k] >= 2).unwrap();
@@ -335,6 +347,47 @@ impl Library for Wrong {
         }
         (answer, length)
     }
+    fn page(&self, weights: &[u32], marks: &[u8], counts: &[u64], page: &mut [u8]) -> (Answer, usize) {
+        let before = page.to_vec();
+        let (answer, length) = MODEL.page(weights, marks, counts, page);
+        let other_length = before.len() % 41 != 0 || before.len() < 82;
+        match (self.0, answer.number) {
+            ("the sum one line late", 0) => {
+                for line in (41..length - 41).step_by(41).rev() {
+                    page.copy_within(line + 26..line + 40, line + 67);
+                }
+                page[67..81].copy_from_slice(b"             0");
+            }
+            ("the meter's count for the sum", 0) => {
+                let first = counts[readings(marks)[0]] as u128;
+                for line in page[41..].chunks_mut(41) {
+                    let sum: u128 = String::from_utf8_lossy(&line[26..40]).trim_start().parse().unwrap();
+                    let count = format!("{:>14}", first + sum);
+                    line[26..40].copy_from_slice(&count.as_bytes()[count.len() - 14..]);
+                }
+            }
+            ("zeros in front of a number", 0) => replace(&mut page[41..], b' '..=b' ', b'0'),
+            ("numbers left-aligned", 0) => left_align(&mut page[41..]),
+            ("the heading left-aligned", 0) => left_align(&mut page[..41]),
+            ("no last line feed", 0) => page[length - 1] = before[length - 1],
+            ("a longer page taken", 3) => {
+                let mut starts =
+                    (82..before.len()).step_by(41).map(|end| MODEL.page(weights, marks, counts, &mut page[..end]));
+                return starts.find(|start| start.0 == DONE).unwrap_or((answer, 0));
+            }
+            ("a page of another length cleared", 3) if lengths_fit(weights, marks, counts) => page.fill(0),
+            ("the page's length before 5", 5) if other_length => return (refused(3), 0),
+            ("the page's length before 11", 11) if other_length => {
+                page.copy_from_slice(&before);
+                return (refused(3), 0);
+            }
+            ("11 leaves the page", 11) => page.copy_from_slice(&before),
+            ("11 clears a page of 41 bytes only", 11) if before.len() != 41 => page.copy_from_slice(&before),
+            ("a length beside 11", 11) => return (answer, 41),
+            _ => {}
+        }
+        (answer, length)
+    }
     fn statement_text(&self, from: &[u16], to: &[u16], wh: &[u64], parts: usize, out: &mut [u8]) -> usize {
         if self.is("from and to exchanged") {
             return MODEL.statement_text(to, from, wh, parts, out);
@@ -399,7 +452,16 @@ const IN_ROUND_TRIPS: [&str; 11] = [
     "a length beside 15",
 ];
 
-const ELSEWHERE: [&str; 42] = [
+/// Faults that a page shows beside a statement of the same account.
+const IN_PAGES: [&str; 5] = [
+    "the sum one line late",
+    "the meter's count for the sum",
+    "numbers left-aligned",
+    "no last line feed",
+    "a longer page taken",
+];
+
+const ELSEWHERE: [&str; 50] = [
     "open leaves the counts",
     "boundary cut to 16 bits",
     "oldest mean weighted most",
@@ -434,6 +496,14 @@ const ELSEWHERE: [&str; 42] = [
     "1 leaves the file's slice",
     "4 leaves the file's slice",
     "4 at an offset of the file",
+    "zeros in front of a number",
+    "the heading left-aligned",
+    "a page of another length cleared",
+    "the page's length before 5",
+    "the page's length before 11",
+    "11 leaves the page",
+    "11 clears a page of 41 bytes only",
+    "a length beside 11",
     "weekday 7 is Monday",
     "weight rounded up",
     "from and to exchanged",
@@ -448,7 +518,7 @@ const SEED: u64 = 20_240_229;
 
 #[test]
 fn every_fault_is_found() {
-    for fault in IN_LISTS.iter().chain(&IN_ROUND_TRIPS).chain(&ELSEWHERE) {
+    for fault in IN_LISTS.iter().chain(&IN_ROUND_TRIPS).chain(&IN_PAGES).chain(&ELSEWHERE) {
         let libraries: [Box<dyn Library>; 1] = [Box::new(Wrong(fault, RefCell::new(None)))];
         let differences = (0..40_000).map(|index| compare(&input(SEED, index), &libraries).1);
         let found = differences.flatten().next();
@@ -456,10 +526,11 @@ fn every_fault_is_found() {
     }
 }
 
-/// Demand 3 finds the faults of an account, and K2's round trips most of those of the writer, without the model's answers.
+/// Demand 3 finds the faults of an account, K2's round trips most of those of the writer, and a statement beside the page some of the
+/// page's, without the model's answers.
 #[test]
 fn a_claim_alone_finds_the_faults_of_several_calls() {
-    for fault in IN_LISTS.iter().chain(&IN_ROUND_TRIPS) {
+    for fault in IN_LISTS.iter().chain(&IN_ROUND_TRIPS).chain(&IN_PAGES) {
         let wrong = |index| claim(&input(SEED, index), &Wrong(fault, RefCell::new(None))).is_err();
         assert!((0..40_000).any(wrong), "{fault} is not found");
     }
@@ -477,6 +548,7 @@ fn no_difference_without_a_fault() {
         ("statement", 4),
         ("case file", 9),
         ("case file written", 7),
+        ("page", 4),
         ("weights", 6),
         ("customer value", 5),
     ] {
@@ -494,7 +566,8 @@ fn the_programs_print_what_the_model_says() {
 /// The statement program prints another text for each file that the reader takes, and ends with 0 also after a refusal.
 #[test]
 fn a_wrong_program_is_found() {
-    let mut found = 0;
-    let examples = programs::rewrite(env!("CARGO_BIN_EXE_statement"), 20, SEED, |_| found += 1);
-    assert_eq!(found, examples + 20);
+    let (program, mut found) = (env!("CARGO_BIN_EXE_statement"), 0);
+    let examples = programs::rewrite(program, 20, SEED, |_| found += 1);
+    assert_eq!(programs::page(program, 20, SEED, |_| found += 1), examples);
+    assert_eq!(found, 2 * (examples + 20));
 }

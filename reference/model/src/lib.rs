@@ -5,6 +5,7 @@ pub mod account;
 pub mod casefile;
 pub mod customer;
 pub mod history;
+pub mod page;
 pub mod power;
 pub mod profile;
 pub mod statement;

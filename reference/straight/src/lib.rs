@@ -1,5 +1,5 @@
-//! Two versions of the timed calls (weights, reading, statement, case file read and written), for docs/BENCHMARK.md: `plain` as one writes
-//! them straight away, `same` with the proved algorithms.
+//! Two versions of the timed calls (weights, reading, statement, case file read and written, page), for docs/BENCHMARK.md: `plain` as one
+//! writes them straight away, `same` with the proved algorithms.
 
 pub mod plain;
 pub mod same;

@@ -1,4 +1,4 @@
-//! Sections "Account and its calls" and "Case file" in plain Rust: iterators, vectors, the standard library's root.
+//! Sections "Account and its calls" and "Case file", and change request K4, in plain Rust: iterators, vectors, the standard library's root.
 
 use crate::weights::{unfit, Standard};
 use crate::{HEAVIEST, LONGEST, MOST_ENERGY};
@@ -237,6 +237,29 @@ pub fn write(
         None => return (refused(15), 0),
     }
     (DONE, file.len())
+}
+
+pub fn page(weights: &[u32], marks: &[u8], counts: &[u64], page: &mut [u8]) -> (Answer, usize) {
+    let n = weights.len();
+    let (mut from, mut to, mut wh) = (vec![0; n], vec![0; n], vec![0; n]);
+    let (answer, parts) = statement(weights, marks, counts, &mut from, &mut to, &mut wh);
+    if answer.number == 11 {
+        page.fill(0);
+    }
+    if answer != DONE {
+        return (answer, 0);
+    }
+    let mut text = format!("{:>6}{:>6}{:>14}{:>14}\n", "from", "to", "Wh", "sum");
+    let mut sum = 0;
+    for i in 0..parts {
+        sum += wh[i];
+        writeln!(text, "{:6}{:6}{:14}{sum:14}", from[i], to[i], wh[i]).unwrap();
+    }
+    if page.len() != text.len() {
+        return (refused(3), 0);
+    }
+    page.copy_from_slice(text.as_bytes());
+    (DONE, text.len())
 }
 
 /// What the statement program prints.

@@ -1,4 +1,5 @@
-//! Sections "Account and its calls" and "Case file" with the proved library's algorithms: the same passes over the same slices, no vectors.
+//! Sections "Account and its calls" and "Case file", and change request K4, with the proved library's algorithms: the same passes over the
+//! same slices, no vectors.
 
 use crate::weights::{unfit, Newton};
 use crate::{HEAVIEST, LONGEST, MOST_ENERGY};
@@ -431,6 +432,54 @@ pub fn write(
     put(out, reading_section, 2, readings as u64);
     put(out, cut_section, 2, cuts as u64);
     put_items(out, reading_section + 2, cut_section + 2, marks, counts);
+    (DONE, length)
+}
+
+const HEADING: &[u8; 41] = b"  from    to            Wh           sum\n";
+
+/// A number in the columns from `start` to before `end`: its digits from the right, then spaces.
+fn put_column(page: &mut [u8], start: usize, end: usize, number: u64) {
+    let (mut at, mut rest) = (end - 1, number);
+    while rest >= 10 {
+        page[at] = b'0' + (rest % 10) as u8;
+        rest /= 10;
+        at -= 1;
+    }
+    page[at] = b'0' + rest as u8;
+    while at > start {
+        at -= 1;
+        page[at] = b' ';
+    }
+}
+
+pub fn page(weights: &[u32], marks: &[u8], counts: &[u64], page: &mut [u8]) -> (Answer, usize) {
+    let n = weights.len();
+    if n > LONGEST {
+        return (refused(3), 0);
+    }
+    let (mut from, mut to, mut wh) = ([0; LONGEST], [0; LONGEST], [0; LONGEST]);
+    let (answer, parts) = statement(weights, marks, counts, &mut from[..n], &mut to[..n], &mut wh[..n]);
+    if answer.number == 11 {
+        page.fill(0);
+    }
+    if answer != DONE {
+        return (answer, 0);
+    }
+    let length = 41 * (parts + 1);
+    if page.len() != length {
+        return (refused(3), 0);
+    }
+    page[..41].copy_from_slice(HEADING);
+    let mut sum = 0;
+    for i in 0..parts {
+        sum += wh[i];
+        let line = 41 * (i + 1);
+        put_column(page, line, line + 6, from[i] as u64);
+        put_column(page, line + 6, line + 12, to[i] as u64);
+        put_column(page, line + 12, line + 26, wh[i]);
+        put_column(page, line + 26, line + 40, sum);
+        page[line + 40] = b'\n';
+    }
     (DONE, length)
 }
 

@@ -1,4 +1,5 @@
-//! Times the calls of sections "Profile value", "Account and its calls" and "Case file" in one run, as ratios (docs/BENCHMARK.md).
+//! Times the calls of sections "Profile value", "Account and its calls" and "Case file", and of change request K4, in one run, as ratios
+//! (docs/BENCHMARK.md).
 //!
 //! bench [PROGRAM]: (a) is the plain version, (b) the same algorithms in Rust; PROGRAM is the proved statement program.
 
@@ -179,6 +180,16 @@ fn run_write(library: &'static dyn Library, first: usize, n: usize) -> Runner<'s
     })
 }
 
+/// The page of a statement between readings at both ends.
+fn run_page(library: &'static dyn Library, first: usize, n: usize, cuts: &[usize]) -> Runner<'static> {
+    let Account { weights, marks, counts } = account(first, n, n, cuts);
+    let mut page = vec![0; 41 * (cuts.len() + 2)];
+    Box::new(move || {
+        let answer = library.page(black_box(&weights), black_box(&marks), &counts, &mut page);
+        assert_eq!(black_box(answer).0.number, 0);
+    })
+}
+
 /// One run of a program, the longest example on its standard input.
 fn run_program(program: PathBuf, argument: Option<&'static str>) -> Runner<'static> {
     let file = include_bytes!("../../../../examples/cases/longest.case");
@@ -242,6 +253,7 @@ fn main() {
     three("statement, three cuts", |library| run_statement(library, 0, 1_096, &[200, 500, 900]));
     three("case file, the longest", |library| run_read(library, 0, 1_096));
     three("case file written, the longest", |library| run_write(library, 0, 1_096));
+    three("page, a cut at every boundary", |library| run_page(library, 0, 1_096, &cuts(1_096)));
     programs(Path::new(&program));
     println!("\n| proved, microseconds | 137 days | 274 | 548 | 1,096 | 1,096 days over 8 × 137 days |");
     println!("|---|---|---|---|---|---|");
@@ -251,4 +263,5 @@ fn main() {
     growth("statement, three cuts", |first, n| run_statement(&Proved, first, n, &[n / 5, n / 2, n - n / 5]));
     growth("case file", |first, n| run_read(&Proved, first, n));
     growth("case file written", |first, n| run_write(&Proved, first, n));
+    growth("page, a cut at every boundary", |first, n| run_page(&Proved, first, n, &cuts(n)));
 }
