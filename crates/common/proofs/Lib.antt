@@ -3,3 +3,4 @@ pub mod Rows
 pub mod Lists
 pub mod Below
 pub mod Clear
+pub mod Filled

@@ -4,11 +4,11 @@ use mathlib.Core.Path.{_≡_, sym, _∙_}
 use mathlib.Core.Bool.{true}
 use mathlib.Core.List.{List}
 use mathlib.Core.Logic.{⊎-elim}
-use Prim.Native.Nat.{ℕ, _-_, _*_, _≤_, _<_}
+use Prim.Native.Nat.{ℕ, zero, suc, _-_, _*_, _≤_, _<_}
 use native.Mathlib.Nat.{eq-or-lt-of-le, mul-le-mul-left}
 use native.Mathlib.Omega.{arith}
 use lib.ListN.{length}
-use Rattle.rounding.proofs.Laws.{nearest-multiple, nearest-mono}
+use Rattle.rounding.proofs.Laws.{nearest-zero, nearest-multiple, nearest-mono}
 use Rattle.account.specs.Stands.{Readings}
 use Rattle.statement.specs.Split.{weightSum, roundedShare, between, has}
 use Rattle.statement.specs.Shares.{Adjacent}
@@ -16,9 +16,10 @@ use Rattle.statement.specs.Facts.{Valid, HasRule}
 use Rattle.statement.proofs.Order.{LiesBetween, earlier-is, later-is, adjacent-rise}
 use Rattle.statement.proofs.Sums.{sum-empty, sum-splits, sum-positive}
 
-share-none : (e z : ℕ) → 0 < z → roundedShare e 0 z ≡ 0
+pub share-none : (e z : ℕ) → roundedShare e 0 z ≡ 0
 unfolding roundedShare
-share-none e z pos = let same : e * 0 ≡ 0 * z = omega arith in rw same (nearest-multiple 0 z pos)
+share-none e zero = nearest-zero _
+share-none e (suc z) = let same : e * 0 ≡ 0 * suc z = omega arith in rw same (nearest-multiple 0 (suc z) (omega arith))
 
 pub share-all : (e z : ℕ) → 0 < z → roundedShare e z z ≡ e
 unfolding roundedShare
@@ -56,7 +57,7 @@ module _ (w : List ℕ) (r : Readings) (valid : Valid w r) (p q : ℕ) (a : Adja
   unfolding between
   at-start =
       let none : roundedShare (r .count q - r .count p) (weightSum w p p) (weightSum w p q) ≡ 0 =
-      rw (sum-empty w p p (omega arith)) (share-none _ _ whole) in
+      rw (sum-empty w p p (omega arith)) (share-none _ _) in
       omega arith
 
   -- what a boundary has, from the reading at p to the reading at q

@@ -8,35 +8,40 @@ use native.Mathlib.Nat.{div-mul-le-self, lt-div-mul-add, div-eq-of-lt-le}
 use native.Mathlib.Decide.{decLe}
 use native.Mathlib.Omega.{arith}
 use lib.ListN.{length}
-use Rattle.rounding.specs.Nearest.{nearest, IsNearest}
+use Rattle.rounding.specs.Nearest.{IsNearest}
 use Rattle.rounding.proofs.Laws.{nearest-is}
 use Rattle.account.specs.Stands.{Readings}
 use Rattle.statement.specs.Split.{weightSum, roundedShare, between, has}
-use Rattle.statement.specs.Shares.{Adjacent, NearShare, Shared}
+use Rattle.statement.specs.Shares.{Adjacent, NearTo, NearShare, Shared}
 use Rattle.statement.specs.Facts.{Valid, DownOrUp, NearForAll}
 use Rattle.statement.proofs.Order.{LiesBetween, earlier-is, later-is}
 use Rattle.statement.proofs.Sums.{sum-splits, sum-positive}
-use Rattle.statement.proofs.Has.{has-between, has-mono}
+use Rattle.statement.proofs.Has.{share-mono, has-between}
 
 -- two roundings, m and d more, for x and y more: d is less than 1 from what y adds
-differ : (e x y z m d : ℕ) → IsNearest (e * x) z m → IsNearest (e * (x + y)) z (m + d) → (d * z < e * y + z) × (e * y < d * z + z)
-differ e x y z m d one other = (omega arith, omega arith)
+differ : (e x y z m d : ℕ) → IsNearest (e * x) z m → IsNearest (e * (x + y)) z (m + d) → NearTo d z e y
+differ e x y z m d one other = record { not-above = omega arith; not-below = omega arith }
+
+-- what a share grows by is near to the exact share of what its part grows by
+pub share-near : (e x y z : ℕ) → 0 < z → NearTo (roundedShare e (x + y) z - roundedShare e x z) z e y
+unfolding roundedShare
+share-near e x y z pos =
+    let one = nearest-is (e * x) z pos in
+    let other = nearest-is (e * (x + y)) z pos in
+    let up : roundedShare e (x + y) z ≡ roundedShare e x z + (roundedShare e (x + y) z - roundedShare e x z) = omega (arith, share-mono e x (x + y) z (omega arith)) in
+    differ e x y z _ _ one (rw up at other)
 
 pub near : (w : List ℕ) (r : Readings) → Valid w r → (p q : ℕ) → Adjacent (r .at) p q → q ≤ length w →
     (f t : ℕ) → p ≤ f → f ≤ t → t ≤ q → NearShare w r p q f t (has w r t - has w r f)
-unfolding between roundedShare
+unfolding between
 near w r valid p q a inside f t low le high =
     let e : ℕ = r .count q - r .count p in
     let z : ℕ = weightSum w p q in
-    let pos : 0 < z = sum-positive w (valid .weights) p q (a .ordered) inside in
     let at-f = has-between w r valid p q a inside f low (omega arith) in
     let at-t = has-between w r valid p q a inside t (omega arith) high in
-    let rises = has-mono w r valid p q a inside f t low le high in
-    let one = nearest-is (e * weightSum w p f) z pos in
-    let other = nearest-is (e * weightSum w p t) z pos in
-    let up : nearest (e * weightSum w p t) z ≡ nearest (e * weightSum w p f) z + (has w r t - has w r f) = omega arith in
-    let d = differ e (weightSum w p f) (weightSum w f t) z _ _ one (rw (up, sum-splits w p f t low le) at other) in
-    record { not-above = omega (arith, d .0); not-below = omega (arith, d .1) }
+    let grows : has w r t - has w r f ≡ roundedShare e (weightSum w p f + weightSum w f t) z - roundedShare e (weightSum w p f) z =
+    rw (← sum-splits w p f t low le) (omega arith) in
+    rw grows (share-near e _ _ z (sum-positive w (valid .weights) p q (a .ordered) inside))
 
 -- x / z rounded down or up is less than 1 from x / z
 down-near : (x z m : ℕ) → 0 < z → m ≡ x / z → (m * z < x + z) × (x < m * z + z)

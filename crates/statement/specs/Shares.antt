@@ -18,10 +18,14 @@ pub record Adjacent (at : ℕ → Bool) (p q : ℕ) : Type 0 where
   pub at-q : at q ≡ true
   pub none-between : (k : ℕ) → p < k → k < q → at k ≡ false
 
--- the Wh of a part from f to t is less than 1 Wh from its exact share E × its weights / Z between the readings at p and q
-pub record NearShare (w : List ℕ) (r : Readings) (p q f t wh : ℕ) : Type 0 where
-  pub not-above : wh * weightSum w p q < (r .count q - r .count p) * weightSum w f t + weightSum w p q
-  pub not-below : (r .count q - r .count p) * weightSum w f t < wh * weightSum w p q + weightSum w p q
+-- wh is less than 1 Wh from the exact share e × part / z
+pub record NearTo (wh z e part : ℕ) : Type 0 where
+  pub not-above : wh * z < e * part + z
+  pub not-below : e * part < wh * z + z
+
+-- the Wh of a part from f to t is that near to its exact share E × its weights / Z between the readings at p and q
+abbrev pub NearShare : List ℕ → Readings → (p q f t wh : ℕ) → Type 0
+NearShare w r p q f t wh = NearTo wh (weightSum w p q) (r .count q - r .count p) (weightSum w f t)
 
 -- a part from f to t lies between two adjacent readings, and is that near to its share
 pub record Shared (w : List ℕ) (r : Readings) (f t wh : ℕ) : Type 0 where

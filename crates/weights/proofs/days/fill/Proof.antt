@@ -8,10 +8,10 @@ use lib.ListN.{length}
 use mir.Syntax.{w16}
 use mir.Val.{toZ, ofZ}
 use mir.Facts.{toZ-ofZ}
+use Rattle.common.proofs.Filled.{Filled, start, step, done}
 use Rattle.profile.specs.Limits.{inRange}
 use Rattle.profile.specs.Weight.{weightOf}
 use Rattle.weights.specs.Weights.{dayWeight, weightsOf}
-use Rattle.weights.proofs.Filled.{Filled, start, step, done}
 use Rattle.weights.proofs.Calendar.{day-known}
 use Rattle.weights.proofs.Span.{weights-length, weights-at}
 use Rattle.weights.proofs.days.fill.Statement.{statement}
