@@ -14,7 +14,7 @@
  *   A refused call leaves every slice as it was, unless its comment says otherwise.
  *   A value that a call does not give is 0. So is a place, unless its comment says otherwise.
  *
- *    3  n is outside 1 to 1,096, or a slice does not have the length for n (a page: for its parts)
+ *    3  n is outside 1 to 1,096, or a slice does not have the length for n (a page: for its parts; points: see arvadush_spread)
  *    1  the profile is above 9
  *    2  the weekday is above 6
  *    4  a mean or a temperature is outside -5,000 to 3,999
@@ -29,6 +29,9 @@
  *   12  the customer value is above 10^12
  *   13  the case file ends early, has bytes left over, or has a boundary that does not rise
  *   15  the slice is shorter than the case file
+ *   16  there is no point or more than 1,000, or a supplier is above 63
+ *   17  the load is above 2,000,000,000 Wh, or the base amounts add up to more than 6,000,000,000
+ *   18  the base amounts add up to 0, and the load is not 0
  *
  * Account
  *   An account of n days has n weights, n + 1 marks and n + 1 counts.
@@ -210,6 +213,23 @@ arvadush_outcome arvadush_customer_value(uint64_t energy, const uint32_t *weight
  *  12  the customer value is above 10^12
  */
 arvadush_outcome arvadush_daily_amount(uint64_t value, uint32_t weight);
+
+/* ---- Residual load of a network, in Wh. */
+
+/* Spreads the load over a list of points in proportion to their base amounts. The value is the network's total, the sum of the totals.
+ * Point i has the supplier suppliers[i], 0 to 63, and the base amount bases[i]. All base amounts have the same unit, whichever it is.
+ * The first k points have together load * (sum of their bases) / (sum of all bases), to the nearest Wh with an exact half going up.
+ * amounts[i] is what the first i + 1 points have, less what the first i have. totals[s] is the sum of the amounts of supplier s.
+ * Amounts and totals both add up to the load. Each amount is less than 1 Wh from its exact share, load * base / (sum of all bases).
+ * If the load and all bases are 0, every exact share is 0, and so is every amount and total.
+ * Refused, in this order:
+ *   3  suppliers, bases and amounts do not have the same length, or totals is not 64 long
+ *  16  there is no point or more than 1,000, or a supplier is above 63; amounts and totals are then zero
+ *  17  the load is above 2,000,000,000 Wh, or the bases add up to more than 6,000,000,000; amounts and totals are then zero
+ *  18  the bases add up to 0, and the load is not 0; amounts and totals are then zero
+ */
+arvadush_outcome arvadush_spread(uint64_t load, const uint8_t *suppliers, size_t suppliers_len, const uint64_t *bases, size_t bases_len,
+                                 uint64_t *amounts, size_t amounts_len, uint64_t *totals, size_t totals_len);
 
 /* ---- Case file and text. */
 

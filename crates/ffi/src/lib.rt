@@ -22,6 +22,8 @@ ghost use Rattle.casefile.specs.Reader.{ReadMet};
 ghost use Rattle.casewriter.specs.Writer.{WriteMet};
 ghost use Rattle.layout.specs.Text.{LaidOut, TextMet, statementText, refusalText};
 ghost use Rattle.page.specs.Call.{PageMet};
+ghost use Rattle.residual.specs.Spread.{pointsIn, spreadIn};
+ghost use Rattle.residual.specs.Call.{SpreadMet};
 ghost use Rattle.ffi.specs.Calls.{ChooseReturned};
 
 // The table's number (0 is done), the place or index that goes with it, and the value; 0 where there is none.
@@ -251,6 +253,20 @@ pub extern "C" fn arvadush_page(
     ensures { λ r. ⌜ PageMet (accountIn (weights .entry) (marks .entry) (counts .entry)) (now (page .entry)) (r .number) (r .value) (accountIn (weights .exit) (marks .exit) (counts .exit)) (now (page .exit)) × (r .place ≡ 0) ⌝ }
 {
     returned::page(page::page(weights, marks, counts, page))
+}
+
+// Spreads the residual load over the points; its value is the network's total.
+#[no_mangle]
+pub extern "C" fn arvadush_spread(
+    load: u64,
+    suppliers: &[u8],
+    bases: &[u64],
+    amounts: &mut [u64],
+    totals: &mut [u64],
+) -> Outcome
+    ensures { λ r. ⌜ SpreadMet load (pointsIn (suppliers .entry) (bases .entry)) (spreadIn (amounts .entry) (totals .entry)) (r .number) (r .value) (pointsIn (suppliers .exit) (bases .exit)) (spreadIn (amounts .exit) (totals .exit)) × (r .place ≡ 0) ⌝ }
+{
+    returned::spread(residual::spread(load, suppliers, bases, amounts, totals))
 }
 
 // The text of a statement of so many parts, at the start of out; the length of the whole text.

@@ -6,6 +6,7 @@ use customer::CustomerAnswer;
 use page::PageAnswer;
 use profile::ValueAnswer;
 use profile::WeightAnswer;
+use residual::SpreadAnswer;
 use statement::StatementAnswer;
 use weights::TemperatureAnswer;
 use weights::WeightsAnswer;
@@ -19,6 +20,7 @@ ghost use Rattle.customer.specs.Customer as customer;
 ghost use Rattle.casefile.specs.Reader as reader;
 ghost use Rattle.casewriter.specs.Writer as writer;
 ghost use Rattle.page.specs.Call as laid;
+ghost use Rattle.residual.specs.Call as spread;
 
 pub(crate) fn temperature_number(answer: TemperatureAnswer) -> u8
     ensures { λ r. ⌜ r ≡ four.number answer ⌝ }
@@ -158,6 +160,18 @@ pub(crate) fn page(answer: PageAnswer) -> Outcome
     match answer {
         PageAnswer::Bytes(bytes) => outcome(0, 0, bytes as u64),
         PageAnswer::Refused(number) => outcome(number, 0, 0),
+    }
+}
+
+pub(crate) fn spread(answer: SpreadAnswer) -> Outcome
+    ensures { λ r. ⌜ r ≡ outcomeOf (spread.number answer) 0 (spread.total answer) ⌝ }
+{
+    match answer {
+        SpreadAnswer::Total(total) => outcome(0, 0, total),
+        SpreadAnswer::Unfit => outcome(3, 0, 0),
+        SpreadAnswer::BadList => outcome(16, 0, 0),
+        SpreadAnswer::TooMuch => outcome(17, 0, 0),
+        SpreadAnswer::NoBase => outcome(18, 0, 0),
     }
 }
 

@@ -1,9 +1,10 @@
-// Prints outside numbers through the exported calls, to be compared with the stored output (Starred cases, "By program", K1).
+// Prints outside numbers through the exported calls, to be compared with the stored output (Starred cases, "By program", K1, K5).
 use customer::CustomerAnswer;
 use libc::STDOUT_FILENO;
 use profile::Profile;
 use profile::ValueAnswer;
 use profile::WeightAnswer;
+use residual::SpreadAnswer;
 use weights::TemperatureAnswer;
 ghost use Prim.Native.Nat.{_<_};
 
@@ -338,6 +339,63 @@ fn split() {
     end_line();
 }
 
+// Some numbers on a line.
+fn each(label: &[u8], numbers: &[u64]) {
+    word(label);
+    let mut i = 0;
+    while i < numbers.len() {
+        labelled(b" ", numbers[i]);
+        i += 1;
+    }
+    end_line();
+}
+
+fn network(answer: SpreadAnswer) {
+    word(b"residual load, network: ");
+    match answer {
+        SpreadAnswer::Total(n) => number(n),
+        SpreadAnswer::Unfit => refused(3),
+        SpreadAnswer::BadList => refused(16),
+        SpreadAnswer::TooMuch => refused(17),
+        SpreadAnswer::NoBase => refused(18),
+    }
+    end_line();
+}
+
+// The twenty points of document 000 (tables 1 and 10): bases in tenths of a Wh, suppliers A and B as 0 and 1, a load of 2,250,000 Wh.
+fn points() {
+    let suppliers = [0u8, 0, 0, 1, 1, 1, 1, 1, 1, 1, 1, 1, 0, 0, 0, 0, 0, 0, 1, 1];
+    let bases = [
+        573_261u64,
+        617_358,
+        749_650,
+        705_552,
+        602_659,
+        661_455,
+        823_145,
+        720_251,
+        690_853,
+        779_048,
+        764_349,
+        661_455,
+        1_511_730,
+        1_682_869,
+        1_540_253,
+        2_067_932,
+        1_725_654,
+        1_411_898,
+        1_212_236,
+        1_369_114,
+    ];
+    let mut amounts = [0u64; 20];
+    let mut totals = [0u64; 64];
+    let answer = residual::spread(2_250_000, &suppliers, &bases, &mut amounts, &mut totals);
+    each(b"residual load, points:", &amounts);
+    let two = [totals[0], totals[1]];
+    each(b"residual load, suppliers:", &two);
+    network(answer);
+}
+
 fn main() {
     temperature();
     values();
@@ -347,4 +405,5 @@ fn main() {
     spans();
     customers();
     split();
+    points();
 }

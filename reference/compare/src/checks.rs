@@ -3,6 +3,7 @@
 use crate::casefiles::{Case, ReadBack, ReadCall, Rewrite, WriteCall};
 use crate::library::Library;
 use crate::pages::PageCall;
+use crate::spreads::{Spread, SpreadCall};
 use model::history::Call;
 use model::{Answer, Boundary, Mean, ProfileNumber, Weekday, DONE};
 use std::fmt;
@@ -80,6 +81,7 @@ pub enum Input {
         account: Account,
         page: File,
     },
+    Spread(Spread),
     StatementText {
         outputs: Outputs,
         parts: usize,
@@ -269,6 +271,7 @@ impl Input {
             Input::Rewrite(..) => "case file rewritten",
             Input::ReadBack(..) => "case file read back",
             Input::Page { .. } => "page",
+            Input::Spread(..) => "spread",
             Input::StatementText { .. } => "statement text",
             Input::RefusalText { .. } => "refusal text",
         }
@@ -320,6 +323,7 @@ impl Input {
             Input::Rewrite(trip) => trip.outcome(library),
             Input::ReadBack(trip) => trip.outcome(library),
             Input::Page { account, page } => PageCall::new(library, account, page).outcome(),
+            Input::Spread(spread) => SpreadCall::new(library, spread).outcome(),
             Input::StatementText { outputs, parts, out } => {
                 let (outputs, mut out) = (LentOutputs::new(outputs), Lent::new(out));
                 let LentOutputs { from, to, wh } = &outputs;

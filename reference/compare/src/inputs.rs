@@ -3,10 +3,12 @@
 use crate::casefiles::{Case, ReadBack, Rewrite};
 use crate::checks::{Account, File, Input, Outputs};
 use crate::random::Random;
+use crate::spreads::Spread;
 use model::history::Call;
 use model::{Boundary, Mean, ProfileNumber, Weekday};
 
 const LIMIT: u64 = 2_000_000_000;
+const BASE_LIMIT: u64 = 6_000_000_000;
 
 /// The days of a span: mostly few, seldom up to 1,096.
 fn days(random: &mut Random) -> usize {
@@ -469,6 +471,74 @@ fn page(random: &mut Random) -> Input {
     Input::Page { account, page: File(bytes(random, length)) }
 }
 
+/// The points of a list: mostly few, seldom none, 1,000 or one more.
+fn points(random: &mut Random) -> usize {
+    match random.below(100) {
+        0 | 1 => 0,
+        2 | 3 => random.pick(&[1_000, 1_001]),
+        4 => random.length(1, 1_000),
+        5..=24 => random.length(1, 60),
+        _ => random.length(1, 9),
+    }
+}
+
+/// Supplier numbers up to one of these, at times with one above 63.
+fn suppliers(random: &mut Random, n: usize) -> Vec<u8> {
+    let most = random.pick(&[0, 1, 5, 62, 63]);
+    let mut suppliers: Vec<u8> = (0..n).map(|_| random.between(0, most) as u8).collect();
+    if random.once_in(10) && n > 0 {
+        suppliers[random.length(0, n - 1)] = random.pick(&[64, 65, 127, 128, 255]);
+    }
+    suppliers
+}
+
+/// Base amounts of one kind; at times one of them makes the sum of all, cut to 64 bits, 0, 1 or about the limit.
+fn bases(random: &mut Random, n: usize) -> Vec<u64> {
+    let (kind, most) = (random.below(10), BASE_LIMIT / n.max(1) as u64);
+    let base = |_| match kind {
+        0 => 0,
+        1 => 1,
+        2 => most,
+        3 => random.next(),
+        4 => random.pick(&[0, 1 << 63]),
+        5 | 6 => random.below(5),
+        _ => random.between(0, most),
+    };
+    let mut bases: Vec<u64> = (0..n).map(base).collect();
+    if random.once_in(4) && n > 0 {
+        let at = random.length(0, n - 1);
+        bases[at] = 0;
+        let others = bases.iter().fold(0u64, |sum, base| sum.wrapping_add(*base));
+        let sum = random.pick(&[0, 1, BASE_LIMIT - 1, BASE_LIMIT, BASE_LIMIT + 1]);
+        bases[at] = sum.wrapping_sub(others);
+    }
+    bases
+}
+
+fn load(random: &mut Random) -> u64 {
+    match random.below(8) {
+        0 | 1 => 0,
+        2 => random.pick(&[1, LIMIT - 1, LIMIT, LIMIT + 1, u64::MAX]),
+        3 => random.between(1, 1_000),
+        4 => number64(random),
+        _ => random.between(0, LIMIT),
+    }
+}
+
+/// A load and its points, mostly of fit lengths, and outputs that hold anything.
+fn load_and_points(random: &mut Random) -> Input {
+    let n = points(random);
+    let lengths = [length(random, n), length(random, n), length(random, n)];
+    let totals = if random.once_in(16) { random.pick(&[0, 63, 65]) } else { 64 };
+    Input::Spread(Spread {
+        load: load(random),
+        suppliers: suppliers(random, lengths[0]),
+        bases: bases(random, lengths[1]),
+        amounts: (0..lengths[2]).map(|_| random.next()).collect(),
+        totals: (0..totals).map(|_| random.next()).collect(),
+    })
+}
+
 fn choose(random: &mut Random) -> Input {
     let n = match random.below(12) {
         0 => random.pick(&[0, 1_097, 1_100, 65_536, usize::MAX, usize::MAX - 2, usize::MAX - 3]),
@@ -705,7 +775,7 @@ fn text(random: &mut Random) -> Input {
 
 /// One random input.
 pub fn input(random: &mut Random) -> Input {
-    match random.below(118) {
+    match random.below(124) {
         0..=5 => Input::Temperature([any_mean(random), any_mean(random), any_mean(random), any_mean(random)]),
         6..=11 => choose(random),
         12..=16 => Input::Value(profile(random), any_mean(random)),
@@ -748,6 +818,7 @@ pub fn input(random: &mut Random) -> Input {
             let (case, out) = case(random);
             Input::ReadBack(ReadBack { case, out, slices: slices(random) })
         }
-        _ => page(random),
+        112..=117 => page(random),
+        _ => load_and_points(random),
     }
 }

@@ -11,3 +11,4 @@ pub mod programs;
 pub mod proved;
 pub mod random;
 pub mod run;
+pub mod spreads;

@@ -1,7 +1,7 @@
 //! The exported calls of the paper as one trait, for the model and the straight versions; the proved one is beside.
 
 use additions::texts::{lay_out, statement_text};
-use model::{account, casefile, customer, page, statement, temperature, value};
+use model::{account, casefile, customer, page, residual, statement, temperature, value};
 use model::{Answer, Boundary, Mean, ProfileNumber, Weekday};
 
 /// One method for each exported call; the answer is the table's number and place. The two texts in a lent buffer
@@ -47,6 +47,14 @@ pub trait Library {
         out: &mut [u8],
     ) -> (Answer, usize);
     fn page(&self, weights: &[u32], marks: &[u8], counts: &[u64], page: &mut [u8]) -> (Answer, usize);
+    fn spread(
+        &self,
+        load: u64,
+        suppliers: &[u8],
+        bases: &[u64],
+        amounts: &mut [u64],
+        totals: &mut [u64],
+    ) -> (Answer, u64);
     fn statement_text(&self, from: &[u16], to: &[u16], wh: &[u64], parts: usize, out: &mut [u8]) -> usize {
         lay_out(&statement_text(from, to, wh, parts), out)
     }
@@ -61,8 +69,9 @@ type Statement = fn(&[u32], &[u8], &[u64], &mut [u16], &mut [u16], &mut [u64]) -
 type Read = fn(&[u8], &mut [u32], &mut [u8], &mut [u64]) -> (Answer, usize);
 type Write = fn(ProfileNumber, Weekday, &[Mean], &[u8], &[u64], &mut [u8]) -> (Answer, usize);
 type Page = fn(&[u32], &[u8], &[u64], &mut [u8]) -> (Answer, usize);
+type Spread = fn(u64, &[u8], &[u64], &mut [u64], &mut [u64]) -> (Answer, u64);
 
-/// A version in Rust: the six timed calls are its own, the others the model's.
+/// A version in Rust: the seven timed calls are its own, the others the model's.
 pub struct Version {
     name: &'static str,
     weights: Weights,
@@ -71,6 +80,7 @@ pub struct Version {
     read: Read,
     write: Write,
     page: Page,
+    spread: Spread,
 }
 
 pub const MODEL: Version = Version {
@@ -81,6 +91,7 @@ pub const MODEL: Version = Version {
     read: casefile::read,
     write: casefile::write,
     page: page::page,
+    spread: residual::spread,
 };
 
 pub const PLAIN: Version = Version {
@@ -91,6 +102,7 @@ pub const PLAIN: Version = Version {
     read: straight::plain::read,
     write: straight::plain::write,
     page: straight::plain::page,
+    spread: straight::plain::spread,
 };
 
 pub const SAME: Version = Version {
@@ -101,6 +113,7 @@ pub const SAME: Version = Version {
     read: straight::same::read,
     write: straight::same::write,
     page: straight::same::page,
+    spread: straight::same::spread,
 };
 
 impl Library for Version {
@@ -177,6 +190,16 @@ impl Library for Version {
     }
     fn page(&self, weights: &[u32], marks: &[u8], counts: &[u64], page: &mut [u8]) -> (Answer, usize) {
         (self.page)(weights, marks, counts, page)
+    }
+    fn spread(
+        &self,
+        load: u64,
+        suppliers: &[u8],
+        bases: &[u64],
+        amounts: &mut [u64],
+        totals: &mut [u64],
+    ) -> (Answer, u64) {
+        (self.spread)(load, suppliers, bases, amounts, totals)
     }
 }
 

@@ -79,6 +79,8 @@ extern "C" {
         marks: *const u8, _: usize, counts: *const u64, _: usize, out: *mut u8, _: usize) -> Outcome<u64>;
     fn arvadush_page(weights: *const u32, _: usize, marks: *const u8, _: usize, counts: *const u64, _: usize,
         page: *mut u8, _: usize) -> Outcome<u64>;
+    fn arvadush_spread(load: u64, suppliers: *const u8, _: usize, bases: *const u64, _: usize,
+        amounts: *mut u64, _: usize, totals: *mut u64, _: usize) -> Outcome<u64>;
     fn arvadush_statement_text(from: *const u16, _: usize, to: *const u16, _: usize, wh: *const u64, _: usize,
         parts: usize, out: *mut u8, _: usize) -> usize;
     fn arvadush_refusal_text(number: u8, place: usize, out: *mut u8, _: usize) -> usize;
@@ -190,6 +192,14 @@ impl Library for Proved {
                 counts.as_ptr(), counts.len(), page.as_mut_ptr(), page.len())
         };
         (returned.answer(), returned.value as usize)
+    }
+    fn spread(&self, load: u64, suppliers: &[u8], bases: &[u64], amounts: &mut [u64],
+        totals: &mut [u64]) -> (Answer, u64) {
+        let returned = unsafe {
+            arvadush_spread(load, suppliers.as_ptr(), suppliers.len(), bases.as_ptr(), bases.len(),
+                amounts.as_mut_ptr(), amounts.len(), totals.as_mut_ptr(), totals.len())
+        };
+        (returned.answer(), returned.value)
     }
     fn statement_text(&self, from: &[u16], to: &[u16], wh: &[u64], parts: usize, out: &mut [u8]) -> usize {
         unsafe {

@@ -4,6 +4,7 @@ use crate::checks::{Input, Outcome};
 use crate::library::{Library, MODEL};
 use crate::pages::PageCall;
 use crate::random::Random;
+use crate::spreads::SpreadCall;
 use crate::{demand3, inputs};
 use model::history::Call;
 use model::profile::Profile;
@@ -31,13 +32,15 @@ pub fn compare(input: &Input, libraries: &[Box<dyn Library>]) -> (Outcome, Vec<S
     (expected, differences)
 }
 
-/// Whether a library keeps what the papers claim of several calls together, where the input has several; else what is wrong.
+/// Whether a library keeps what the papers claim of several calls together, where the input has several, and of the outputs of a spread;
+/// else what is wrong.
 pub fn claim(input: &Input, library: &dyn Library) -> Result<(), String> {
     let (name, checked) = match input {
         Input::List(account, calls) => ("demand 3", demand3::check(library, account, calls)),
         Input::Rewrite(trip) => ("K2, rewritten", trip.check(library)),
         Input::ReadBack(trip) => ("K2, read back", trip.check(library)),
         Input::Page { account, page } => ("K4, page", PageCall::new(library, account, page).check(library)),
+        Input::Spread(spread) => ("K5, spread", SpreadCall::new(library, spread).check()),
         _ => return Ok(()),
     };
     checked.map_err(|wrong| format!("{name}: {wrong}"))

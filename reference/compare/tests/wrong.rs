@@ -1,5 +1,5 @@
-//! Sections "Buyer's note on contracts" and "Errors seen in other houses", and change requests K1, K2 and K4: the comparison
-//! finds each wrong library.
+//! Sections "Buyer's note on contracts" and "Errors seen in other houses", and change requests K1, K2, K4 and K5: the
+//! comparison finds each wrong library.
 
 use additions::texts::lay_out;
 use compare::library::{compared, Library, MODEL};
@@ -72,6 +72,46 @@ fn left_align(lines: &mut [u8]) {
             line[column].rotate_left(spaces);
         }
     }
+}
+
+/// The total of each supplier; returns the network's.
+fn add_up(suppliers: &[u8], amounts: &[u64], totals: &mut [u64]) -> u64 {
+    totals.fill(0);
+    for (supplier, amount) in suppliers.iter().zip(amounts) {
+        let total = &mut totals[*supplier as usize];
+        *total = total.wrapping_add(*amount);
+    }
+    totals.iter().fold(0, |sum, total| sum.wrapping_add(*total))
+}
+
+/// The running rule over outputs that are zero, in 64 bits that wrap, with so much added before each division.
+fn run_through(
+    load: u64,
+    suppliers: &[u8],
+    bases: &[u64],
+    added: u64,
+    amounts: &mut [u64],
+    totals: &mut [u64],
+) -> (Answer, u64) {
+    let all = bases.iter().fold(0, |sum: u64, base| sum.wrapping_add(*base));
+    if all == 0 {
+        return (if load == 0 { DONE } else { refused(18) }, 0);
+    }
+    let (mut part, mut before) = (0u64, 0);
+    for (amount, base) in amounts.iter_mut().zip(bases) {
+        part = part.wrapping_add(*base);
+        let reached = load.wrapping_mul(part).wrapping_add(added) / all;
+        *amount = reached.wrapping_sub(before);
+        before = reached;
+    }
+    (DONE, add_up(suppliers, amounts, totals))
+}
+
+/// A list that is refused with this number.
+fn cleared(number: u8, amounts: &mut [u64], totals: &mut [u64]) -> (Answer, u64) {
+    amounts.fill(0);
+    totals.fill(0);
+    (refused(number), 0)
 }
 
 impl Library for Wrong {
@@ -388,6 +428,73 @@ impl Library for Wrong {
         }
         (answer, length)
     }
+    fn spread(
+        &self,
+        load: u64,
+        suppliers: &[u8],
+        bases: &[u64],
+        amounts: &mut [u64],
+        totals: &mut [u64],
+    ) -> (Answer, u64) {
+        if self.is("supplier 64 counts as 0") {
+            let suppliers: Vec<u8> = suppliers.iter().map(|supplier| supplier % 64).collect();
+            return MODEL.spread(load, &suppliers, bases, amounts, totals);
+        }
+        let (old_amounts, old_totals) = (amounts.to_vec(), totals.to_vec());
+        let (answer, network) = MODEL.spread(load, suppliers, bases, amounts, totals);
+        let n = bases.len();
+        let all: u128 = bases.iter().map(|base| *base as u128).sum();
+        let (wrapped, great) = (all as u64, load > 2_000_000_000 || all > 6_000_000_000);
+        match (self.0, answer.number) {
+            ("each point rounded alone", 0) if all > 0 => {
+                (0..n).for_each(|i| amounts[i] = (load * bases[i] + wrapped / 2) / wrapped);
+                return (DONE, add_up(suppliers, amounts, totals));
+            }
+            ("the last point takes the rest", 0) if all > 0 => {
+                (0..n).for_each(|i| amounts[i] = load * bases[i] / wrapped);
+                amounts[n - 1] += load - amounts.iter().sum::<u64>();
+                return (DONE, add_up(suppliers, amounts, totals));
+            }
+            ("points in the order of their suppliers", 0) => {
+                let (mut order, mut given): (Vec<usize>, _) = ((0..n).collect(), vec![0; n]);
+                order.sort_by_key(|i| suppliers[*i]);
+                let sorted: Vec<u64> = order.iter().map(|i| bases[*i]).collect();
+                MODEL.spread(load, suppliers, &sorted, &mut given, totals);
+                order.iter().zip(given).for_each(|(i, amount)| amounts[*i] = amount);
+                return (DONE, add_up(suppliers, amounts, totals));
+            }
+            ("a point's half goes down", 0) if all > 0 => {
+                return run_through(load, suppliers, bases, (wrapped - 1) / 2, amounts, totals)
+            }
+            ("the base sum wraps", 17) if load <= 2_000_000_000 && wrapped <= 6_000_000_000 => {
+                return run_through(load, suppliers, bases, wrapped / 2, amounts, totals)
+            }
+            ("1,001 points taken", 16) if n == 1_001 && suppliers.iter().all(|s| *s < 64) && !great => {
+                return run_through(load, suppliers, bases, wrapped / 2, amounts, totals)
+            }
+            ("an empty list done", 16) if n == 0 && load == 0 => return (DONE, 0),
+            ("totals added onto what the slice held", 0) => {
+                totals.iter_mut().zip(old_totals).for_each(|(total, old)| *total = total.wrapping_add(old))
+            }
+            ("1,000 points refused", 0) if n == 1_000 => return cleared(16, amounts, totals),
+            ("supplier 63 refused", 0) if suppliers.contains(&63) => return cleared(16, amounts, totals),
+            ("a load of 2,000,000,000 refused", 0) if load == 2_000_000_000 => return cleared(17, amounts, totals),
+            ("a base sum of 6,000,000,000 refused", 0) if all == 6_000_000_000 => return cleared(17, amounts, totals),
+            ("zero over zero refused", 0) if all == 0 => return cleared(18, amounts, totals),
+            ("17 before 16", 16) if great => return (refused(17), 0),
+            ("18 before 17", 17) if all == 0 => return (refused(18), 0),
+            ("the load beside 18", 18) => return (answer, load),
+            ("3 clears the outputs", 3) => return cleared(3, amounts, totals),
+            ("16 leaves the amounts", 16) | ("17 leaves the amounts", 17) | ("18 leaves the amounts", 18) => {
+                amounts.copy_from_slice(&old_amounts)
+            }
+            ("16 leaves the totals", 16) | ("17 leaves the totals", 17) | ("18 leaves the totals", 18) => {
+                totals.copy_from_slice(&old_totals)
+            }
+            _ => {}
+        }
+        (answer, network)
+    }
     fn statement_text(&self, from: &[u16], to: &[u16], wh: &[u64], parts: usize, out: &mut [u8]) -> usize {
         if self.is("from and to exchanged") {
             return MODEL.statement_text(to, from, wh, parts, out);
@@ -461,7 +568,15 @@ const IN_PAGES: [&str; 5] = [
     "a longer page taken",
 ];
 
-const ELSEWHERE: [&str; 50] = [
+/// Faults that a spread shows by its own outputs.
+const IN_SPREADS: [&str; 4] = [
+    "each point rounded alone",
+    "the last point takes the rest",
+    "the base sum wraps",
+    "totals added onto what the slice held",
+];
+
+const ELSEWHERE: [&str; 70] = [
     "open leaves the counts",
     "boundary cut to 16 bits",
     "oldest mean weighted most",
@@ -504,6 +619,26 @@ const ELSEWHERE: [&str; 50] = [
     "11 leaves the page",
     "11 clears a page of 41 bytes only",
     "a length beside 11",
+    "points in the order of their suppliers",
+    "a point's half goes down",
+    "supplier 64 counts as 0",
+    "1,001 points taken",
+    "an empty list done",
+    "1,000 points refused",
+    "supplier 63 refused",
+    "a load of 2,000,000,000 refused",
+    "a base sum of 6,000,000,000 refused",
+    "zero over zero refused",
+    "17 before 16",
+    "18 before 17",
+    "the load beside 18",
+    "3 clears the outputs",
+    "16 leaves the amounts",
+    "17 leaves the amounts",
+    "18 leaves the amounts",
+    "16 leaves the totals",
+    "17 leaves the totals",
+    "18 leaves the totals",
     "weekday 7 is Monday",
     "weight rounded up",
     "from and to exchanged",
@@ -518,7 +653,7 @@ const SEED: u64 = 20_240_229;
 
 #[test]
 fn every_fault_is_found() {
-    for fault in IN_LISTS.iter().chain(&IN_ROUND_TRIPS).chain(&IN_PAGES).chain(&ELSEWHERE) {
+    for fault in IN_LISTS.iter().chain(&IN_ROUND_TRIPS).chain(&IN_PAGES).chain(&IN_SPREADS).chain(&ELSEWHERE) {
         let libraries: [Box<dyn Library>; 1] = [Box::new(Wrong(fault, RefCell::new(None)))];
         let differences = (0..40_000).map(|index| compare(&input(SEED, index), &libraries).1);
         let found = differences.flatten().next();
@@ -526,11 +661,11 @@ fn every_fault_is_found() {
     }
 }
 
-/// Demand 3 finds the faults of an account, K2's round trips most of those of the writer, and a statement beside the page some of the
-/// page's, without the model's answers.
+/// Demand 3 finds the faults of an account, K2's round trips most of those of the writer, a statement beside the page some of the page's,
+/// and the sums and the exact shares some of a spread's, without the model's answers.
 #[test]
-fn a_claim_alone_finds_the_faults_of_several_calls() {
-    for fault in IN_LISTS.iter().chain(&IN_ROUND_TRIPS).chain(&IN_PAGES) {
+fn a_claim_alone_finds_faults() {
+    for fault in IN_LISTS.iter().chain(&IN_ROUND_TRIPS).chain(&IN_PAGES).chain(&IN_SPREADS) {
         let wrong = |index| claim(&input(SEED, index), &Wrong(fault, RefCell::new(None))).is_err();
         assert!((0..40_000).any(wrong), "{fault} is not found");
     }
@@ -549,6 +684,7 @@ fn no_difference_without_a_fault() {
         ("case file", 9),
         ("case file written", 7),
         ("page", 4),
+        ("spread", 5),
         ("weights", 6),
         ("customer value", 5),
     ] {

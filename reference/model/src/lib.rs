@@ -8,6 +8,7 @@ pub mod history;
 pub mod page;
 pub mod power;
 pub mod profile;
+pub mod residual;
 pub mod statement;
 pub mod temperature;
 pub mod value;

@@ -1,7 +1,8 @@
-//! Sections "Account and its calls" and "Case file", and change request K4, in plain Rust: iterators, vectors, the standard library's root.
+//! Sections "Account and its calls" and "Case file", and change requests K4 and K5, in plain Rust: iterators, vectors, the standard
+//! library's root.
 
 use crate::weights::{unfit, Standard};
-use crate::{HEAVIEST, LONGEST, MOST_ENERGY};
+use crate::{HEAVIEST, LONGEST, MOST_BASE, MOST_ENERGY, MOST_LOAD, MOST_POINTS, SUPPLIERS};
 use model::{refused, refused_at, Answer, Mean, ProfileNumber, Weekday, DONE};
 use std::fmt::Write;
 
@@ -260,6 +261,34 @@ pub fn page(weights: &[u32], marks: &[u8], counts: &[u64], page: &mut [u8]) -> (
     }
     page.copy_from_slice(text.as_bytes());
     (DONE, text.len())
+}
+
+pub fn spread(load: u64, suppliers: &[u8], bases: &[u64], amounts: &mut [u64], totals: &mut [u64]) -> (Answer, u64) {
+    let n = suppliers.len();
+    if bases.len() != n || amounts.len() != n || totals.len() != SUPPLIERS {
+        return (refused(3), 0);
+    }
+    amounts.fill(0);
+    totals.fill(0);
+    if n < 1 || n > MOST_POINTS || suppliers.iter().any(|supplier| *supplier as usize >= SUPPLIERS) {
+        return (refused(16), 0);
+    }
+    let all: u128 = bases.iter().map(|base| *base as u128).sum();
+    if load > MOST_LOAD || all > MOST_BASE as u128 {
+        return (refused(17), 0);
+    }
+    if all == 0 {
+        return (if load == 0 { DONE } else { refused(18) }, 0);
+    }
+    let (all, mut part, mut before) = (all as u64, 0, 0);
+    for ((supplier, base), amount) in suppliers.iter().zip(bases).zip(amounts) {
+        part += base;
+        let upto = (load * part + all / 2) / all;
+        *amount = upto - before;
+        totals[*supplier as usize] += *amount;
+        before = upto;
+    }
+    (DONE, totals.iter().sum())
 }
 
 /// What the statement program prints.

@@ -1,8 +1,8 @@
-//! Sections "Account and its calls" and "Case file", and change request K4, with the proved library's algorithms: the same passes over the
-//! same slices, no vectors.
+//! Sections "Account and its calls" and "Case file", and change requests K4 and K5, with the proved library's algorithms: the same passes
+//! over the same slices, no vectors.
 
 use crate::weights::{unfit, Newton};
-use crate::{HEAVIEST, LONGEST, MOST_ENERGY};
+use crate::{HEAVIEST, LONGEST, MOST_BASE, MOST_ENERGY, MOST_LOAD, MOST_POINTS, SUPPLIERS};
 use model::{refused, refused_at, Answer, Mean, ProfileNumber, Weekday, DONE};
 
 pub fn weights(profile: ProfileNumber, weekday: Weekday, means: &[Mean], calendar: &[u8], out: &mut [u32]) -> Answer {
@@ -481,6 +481,61 @@ pub fn page(weights: &[u32], marks: &[u8], counts: &[u64], page: &mut [u8]) -> (
         page[line + 40] = b'\n';
     }
     (DONE, length)
+}
+
+/// A list of 1 to 1,000 points, each with a supplier 0 to 63.
+fn good_suppliers(suppliers: &[u8]) -> bool {
+    if suppliers.is_empty() || suppliers.len() > MOST_POINTS {
+        return false;
+    }
+    for supplier in suppliers {
+        if *supplier as usize >= SUPPLIERS {
+            return false;
+        }
+    }
+    true
+}
+
+/// The sum of the bases; none above 6,000,000,000. No addition wraps.
+fn base_sum(bases: &[u64]) -> Option<u64> {
+    let mut sum = 0;
+    for base in bases {
+        if MOST_BASE - sum < *base {
+            return None;
+        }
+        sum += base;
+    }
+    Some(sum)
+}
+
+pub fn spread(load: u64, suppliers: &[u8], bases: &[u64], amounts: &mut [u64], totals: &mut [u64]) -> (Answer, u64) {
+    let n = suppliers.len();
+    if bases.len() != n || amounts.len() != n || totals.len() != SUPPLIERS {
+        return (refused(3), 0);
+    }
+    amounts.fill(0);
+    totals.fill(0);
+    if !good_suppliers(suppliers) {
+        return (refused(16), 0);
+    }
+    let Some(sum) = base_sum(bases) else {
+        return (refused(17), 0);
+    };
+    if load > MOST_LOAD {
+        return (refused(17), 0);
+    }
+    if sum == 0 {
+        return (if load == 0 { DONE } else { refused(18) }, 0);
+    }
+    let (mut part, mut before) = (0, 0);
+    for i in 0..n {
+        part += bases[i];
+        let reached = (load * part + sum / 2) / sum;
+        amounts[i] = reached - before;
+        totals[suppliers[i] as usize] += reached - before;
+        before = reached;
+    }
+    (DONE, load)
 }
 
 /// A text in a buffer that is written once.

@@ -1,5 +1,5 @@
-//! Times the calls of sections "Profile value", "Account and its calls" and "Case file", and of change request K4, in one run, as ratios
-//! (docs/BENCHMARK.md).
+//! Times the calls of sections "Profile value", "Account and its calls" and "Case file", and of change requests K4 and K5, in one run, as
+//! ratios (docs/BENCHMARK.md).
 //!
 //! bench [PROGRAM]: (a) is the plain version, (b) the same algorithms in Rust; PROGRAM is the proved statement program.
 
@@ -190,6 +190,19 @@ fn run_page(library: &'static dyn Library, first: usize, n: usize, cuts: &[usize
     })
 }
 
+/// A load of 110 MWh over n points of 64 suppliers, each with a base of 50 to 150 kWh in units of 0.1 Wh.
+fn run_spread(library: &'static dyn Library, first: usize, n: usize) -> Runner<'static> {
+    let points = first as u64..(first + n) as u64;
+    let suppliers: Vec<u8> = points.clone().map(|i| (i * 37 % 64) as u8).collect();
+    let bases: Vec<u64> = points.map(|i| 500_000 + i * 7_919_357 % 1_000_001).collect();
+    let (mut amounts, mut totals) = (vec![0; n], vec![0; 64]);
+    Box::new(move || {
+        let (suppliers, bases) = (black_box(&suppliers), black_box(&bases));
+        let answer = library.spread(black_box(110_000_000), suppliers, bases, &mut amounts, &mut totals);
+        assert_eq!(black_box(answer).0.number, 0);
+    })
+}
+
 /// One run of a program, the longest example on its standard input.
 fn run_program(program: PathBuf, argument: Option<&'static str>) -> Runner<'static> {
     let file = include_bytes!("../../../../examples/cases/longest.case");
@@ -221,18 +234,18 @@ fn programs(proved: &Path) {
     }
 }
 
-/// The proved version on the same 1,096 days as eight spans of 137, four of 274, two of 548 or one: the time of one span, all in turns,
-/// and the last over eight times the first, which is 1 if growth is linear.
-fn growth(what: &str, runner: impl Fn(usize, usize) -> Runner<'static>) {
+/// The proved version on the same days or points, in eight spans of an eighth, four of a quarter, two of a half or one: the time of one
+/// span, all in turns, and the last over eight times the first, which is 1 if growth is linear.
+fn growth(what: &str, all: usize, runner: impl Fn(usize, usize) -> Runner<'static>) {
     let spans = |n: usize| -> Runner<'static> {
-        let mut runners: Vec<Runner> = (0..1_096 / n).map(|span| runner(span * n, n)).collect();
+        let mut runners: Vec<Runner> = (0..all / n).map(|span| runner(span * n, n)).collect();
         let mut next = 0;
         Box::new(move || {
             runners[next]();
             next = (next + 1) % runners.len();
         })
     };
-    let mut runners: Vec<Runner> = [137, 274, 548, 1_096].into_iter().map(spans).collect();
+    let mut runners: Vec<Runner> = [all / 8, all / 4, all / 2, all].into_iter().map(spans).collect();
     let times = medians(thread_time, ROUNDS, &mut runners);
     print!("| {what} |");
     times.iter().for_each(|time| print!(" {:.2} |", time / 1_000.0));
@@ -254,14 +267,16 @@ fn main() {
     three("case file, the longest", |library| run_read(library, 0, 1_096));
     three("case file written, the longest", |library| run_write(library, 0, 1_096));
     three("page, a cut at every boundary", |library| run_page(library, 0, 1_096, &cuts(1_096)));
+    three("spread, 1,000 points, 64 suppliers", |library| run_spread(library, 0, 1_000));
     programs(Path::new(&program));
     println!("\n| proved, microseconds | 137 days | 274 | 548 | 1,096 | 1,096 days over 8 × 137 days |");
     println!("|---|---|---|---|---|---|");
-    growth("weights, profile 0", |first, n| run_weights(&Proved, 0, first, n));
-    growth("reading", |first, n| run_reading(&Proved, first, n, 30));
-    growth("statement, a cut at every boundary", |first, n| run_statement(&Proved, first, n, &cuts(n)));
-    growth("statement, three cuts", |first, n| run_statement(&Proved, first, n, &[n / 5, n / 2, n - n / 5]));
-    growth("case file", |first, n| run_read(&Proved, first, n));
-    growth("case file written", |first, n| run_write(&Proved, first, n));
-    growth("page, a cut at every boundary", |first, n| run_page(&Proved, first, n, &cuts(n)));
+    growth("weights, profile 0", 1_096, |first, n| run_weights(&Proved, 0, first, n));
+    growth("reading", 1_096, |first, n| run_reading(&Proved, first, n, 30));
+    growth("statement, a cut at every boundary", 1_096, |first, n| run_statement(&Proved, first, n, &cuts(n)));
+    growth("statement, three cuts", 1_096, |first, n| run_statement(&Proved, first, n, &[n / 5, n / 2, n - n / 5]));
+    growth("case file", 1_096, |first, n| run_read(&Proved, first, n));
+    growth("case file written", 1_096, |first, n| run_write(&Proved, first, n));
+    growth("page, a cut at every boundary", 1_096, |first, n| run_page(&Proved, first, n, &cuts(n)));
+    growth("spread, 125, 250, 500 and 1,000 points", 1_000, |first, n| run_spread(&Proved, first, n));
 }
