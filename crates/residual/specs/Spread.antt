@@ -1,5 +1,6 @@
--- The residual load spread over the points of a network (K5): "For a list of points, each with supplier number 0 to 63 and base amount, give every point its
--- whole Wh by the statement's running rule in list order, then each supplier's total, then the network's."
+-- The residual load spread over the points of a network (K5): operators "share it over their points, as source document 000 does with its factor of residual
+-- load over base sum. For a list of points, each with supplier number 0 to 63 and base amount, give every point its whole Wh by the statement's running
+-- rule in list order, then each supplier's total, then the network's."
 use Prim.Native.Nat.{ℕ, zero, suc, _+_, _-_}
 use mathlib.Core.Bool.{cond}
 use mathlib.Core.List.{List}
@@ -9,7 +10,7 @@ use denote.Ref.{RefT, now}
 use Rattle.common.specs.Lists.{listOf, sumOf}
 use Rattle.statement.specs.Split.{roundedShare}
 
--- "a list of points, each with supplier number .. and base amount"
+-- "a list of points, each with supplier number 0 to 63 and base amount"; "Supplier numbers are bytes; base amounts .. have 64 bits", as the call's slices have
 pub record Points : Type 0 where
   pub suppliers : List ℕ
   pub bases : List ℕ
