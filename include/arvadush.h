@@ -1,6 +1,6 @@
 /* The proved settlement calls for C and Rust: gas day weights, customer values and split statements.
  *
- * The static library (crate ffi) defines these calls. They keep no state. README.md tells how to build and link it.
+ * The static library (crate ffi_c) defines these calls. They keep no state. README.md tells how to build and link it.
  *
  * Slices
  *   A slice is passed as a pointer and the number of its elements.

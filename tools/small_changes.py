@@ -4,7 +4,7 @@
     python3 tools/small_changes.py CRATE ..
 
 A change is another comparison, operation or number, a statement left out, or the first two arguments of a call exchanged, in the body of a
-function; contracts and definitions stay. Each changed crate is checked by `rt dev` in a copy of the repository. One that is proved computes the
+function; contracts and definitions stay. Each changed crate is checked by `rt check` in a copy of the repository. One that is proved computes the
 same, or a contract says too little. One that does not compile, or that leaves a proof without the form of its code, tells nothing.
 """
 import glob
@@ -69,7 +69,7 @@ def changes(crate):
 def try_change(copy, change):
     crate, path, number, line, other, text = change
     proved, first = check_with(copy, crate, {path: text})
-    compiled = first != NOTHING and ("not proved" in first or ".antt" in first)
+    compiled = first != NOTHING and ": error[" not in first
     verdict = "proved" if proved else "not compiled" if not compiled else "unfit" if unfit(first) else "refused"
     print(f"{verdict}: {crate}/{path}:{number + 1}: {line.strip()} => {other.strip()}", flush=True)
     return verdict

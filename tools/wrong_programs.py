@@ -5,7 +5,7 @@
 
 An edit of the gate holds several wrong programs of its crate, at most one in a function, a definition or a field, each after a line `# NAME: what is wrong`. The gate
 shows that every edit is refused, proved from nothing. This makes one wrong program after the other in copies of the repository and has
-`rt dev` check the crate, which checks again only what that touches: each must be refused, and not because a proof no longer fits the code's
+`rt check` check the crate, which checks again only what that touches: each must be refused, and not because a proof no longer fits the code's
 form.
 """
 import concurrent.futures
@@ -18,8 +18,9 @@ import sys
 import tempfile
 
 ROOT = os.path.dirname(os.path.dirname(os.path.abspath(__file__)))
-# What the prover says where an edit changed the needs of a function, so that its proof file does not fit any more: a need is gone, or their number is another.
-UNFIT = ("that can be named from here", ".Lts.Closed ")
+# What the prover says where an edit changed the goals of a function, so that its proof file does not fit any more: a goal or a variable is gone; or where
+# the edit does not compile.
+UNFIT = ("that can be named from here", "` has no field `", ": error[")
 # Said here where the check broke off without an error.
 NOTHING = "no error was printed"
 
@@ -44,14 +45,14 @@ def wrong_programs(crate):
 
 
 def unfit(first):
-    """Whether the first thing that is wrong is a proof that does not fit the code's form."""
+    """Whether the first thing that is wrong is a proof that does not fit the code's form, or code that does not compile."""
     return any(sign in first for sign in UNFIT)
 
 
 def check(copy, crate):
     """Whether the crate is proved, and the first thing that is wrong."""
-    done = subprocess.run(["rt", "dev", crate], cwd=copy, capture_output=True, text=True)
-    wrong = [line for line in (done.stdout + done.stderr).splitlines() if ": error:" in line or "not proved" in line]
+    done = subprocess.run(["rt", "check", "--jobs", "1"], cwd=os.path.join(copy, "crates", crate), capture_output=True, text=True)
+    wrong = [line for line in (done.stdout + done.stderr).splitlines() if re.search(r": error[:[]", line) or re.search(r": not proved|: no proof", line)]
     return done.returncode == 0, wrong[0].replace(copy + "/", "") if wrong else NOTHING
 
 
@@ -91,7 +92,7 @@ def in_copies(task, items):
         copies = queue.Queue()
         for number in range(os.cpu_count()):
             copy = os.path.join(scratch, str(number))
-            shutil.copytree(ROOT, copy, ignore=shutil.ignore_patterns(".git", "reference"), symlinks=True)
+            shutil.copytree(ROOT, copy, ignore=shutil.ignore_patterns(".git", "reference", "out", "target"), symlinks=True)
             copies.put(copy)
 
         def in_copy(item):
@@ -120,7 +121,7 @@ def try_crate(copy, crate):
 def main(crates):
     if not crates:
         with open(os.path.join(ROOT, "crates.txt"), encoding="utf-8") as file:
-            crates = [line.split(":")[0] for line in file if ":" in line and not line.startswith("#")]
+            crates = [line.split(":")[0].split()[0] for line in file if ":" in line and not line.startswith("#")]
     crates = sorted((crate for crate in crates if list(wrong_programs(crate))), key=lambda crate: -len(list(wrong_programs(crate))))
     results = in_copies(try_crate, crates)
     count, missed = (sum(column) for column in zip(*results))

@@ -1,4 +1,4 @@
-//! Where the proved static library is found when the feature `linked` is on: where `rt staticlib ffi` writes it, or the directory that
+//! Where the proved static library is found when the feature `linked` is on: where tools/library writes it, or the directory that
 //! ARVADUSH_LIBRARY names; serves every section.
 
 fn main() {

@@ -1,6 +1,5 @@
 -- The account (Account and its calls): its three slices as one value, what they show, and when they fit and are sound.
 use Rattle.std.specs.Prelude.{ℕ, suc, ◌+◌, Bool, true, false, not, ◌&&◌, ◌||◌, List, leb, eqb, length, get_or}
-use Rattle.std.specs.Borrow.{Bor}
 use Rattle.profile.specs.Limits.{weight_least, weight_most, bad_span}
 use Rattle.common.specs.Below.{everywhere}
 use Rattle.account.specs.Stands.{Readings, Stands, never_falling, last_less_first}
@@ -12,12 +11,9 @@ pub record Account : Type 0 where
   pub marks : List ℕ
   pub counts : List ℕ
 
+-- what three lent slices hold, at the start (`old`, or `now` where they are only read) or the end (`new`) of a call
 abbrev pub account : List ℕ → List ℕ → List ℕ → Account
 account w m c = record { weights = w; marks = m; counts = c }
-
--- what three lent slices hold, at the start (`entry`) or the end (`exit`) of a call
-abbrev pub account_in : Bor (List ℕ) → Bor (List ℕ) → Bor (List ℕ) → Account
-account_in w m c = account w.now m.now c.now
 
 -- n
 abbrev pub days : Account → ℕ

@@ -1,11 +1,13 @@
 // The account and its calls on lent slices (Account and its calls, If a call declines).
 // Each contract is one record of specs/Calls.antt: the number answered, and the account's three slices after the call.
+#![tactic(auto)]
+
 mod marks;
 mod soundness;
 mod table;
 
 ghost use Rattle.std.specs.Prelude.{◌≡◌};
-ghost use Rattle.account.specs.Account.{account_in, marks_reading, energy_most};
+ghost use Rattle.account.specs.Account.{account, marks_reading, energy_most};
 ghost use Rattle.account.specs.Calls.{number, OpenMet, ReadingMet, WithdrawMet, CutMet, UncutMet, CheckMet, GoodWeightsMet};
 
 use common::{clear_u8, clear_u64};
@@ -15,7 +17,7 @@ use soundness::{good_boundaries, unfit};
 use table::{cut_answer, reading_answer, uncut_answer, withdraw_answer};
 
 // What a call answers: done, or a row of the table.
-#[derive(Drop)]
+#[derive(Clone, Copy)]
 pub enum Answer {
     Done,
     Unfit,
@@ -32,7 +34,7 @@ pub const ENERGY_MOST: u64 = 2_000_000_000;
 
 // Clears marks and counts, whatever they held.
 pub fn open(weights: &[u32], marks: &mut [u8], counts: &mut [u64]) -> Answer
-    ensures { OpenMet (account_in weights.entry marks.entry counts.entry) (number result) (account_in weights.exit marks.exit counts.exit) }
+    ensures { OpenMet (account weights.now marks.old counts.old) (number result) (account weights.now marks.new counts.new) }
 {
     if unfit(weights.len(), marks.len(), counts.len()) {
         return Answer::Unfit;
@@ -47,7 +49,7 @@ pub fn open(weights: &[u32], marks: &mut [u8], counts: &mut [u64]) -> Answer
 
 // Sets a reading of count v at boundary k.
 pub fn reading(weights: &[u32], marks: &mut [u8], counts: &mut [u64], k: usize, v: u64) -> Answer
-    ensures { ReadingMet (account_in weights.entry marks.entry counts.entry) k v (number result) (account_in weights.exit marks.exit counts.exit) }
+    ensures { ReadingMet (account weights.now marks.old counts.old) k v (number result) (account weights.now marks.new counts.new) }
 {
     let answer = reading_answer(weights, &marks[..], &counts[..], k, v);
     if number_of(answer) == 0 {
@@ -60,7 +62,7 @@ pub fn reading(weights: &[u32], marks: &mut [u8], counts: &mut [u64], k: usize, 
 
 // Removes the reading at boundary k and zeroes its count.
 pub fn withdraw(weights: &[u32], marks: &mut [u8], counts: &mut [u64], k: usize) -> Answer
-    ensures { WithdrawMet (account_in weights.entry marks.entry counts.entry) k (number result) (account_in weights.exit marks.exit counts.exit) }
+    ensures { WithdrawMet (account weights.now marks.old counts.old) k (number result) (account weights.now marks.new counts.new) }
 {
     let answer = withdraw_answer(weights, &marks[..], &counts[..], k);
     if number_of(answer) == 0 {
@@ -73,7 +75,7 @@ pub fn withdraw(weights: &[u32], marks: &mut [u8], counts: &mut [u64], k: usize)
 
 // Sets a cut at boundary k.
 pub fn cut(weights: &[u32], marks: &mut [u8], counts: &[u64], k: usize) -> Answer
-    ensures { CutMet (account_in weights.entry marks.entry counts.entry) k (number result) (account_in weights.exit marks.exit counts.exit) }
+    ensures { CutMet (account weights.now marks.old counts.now) k (number result) (account weights.now marks.new counts.now) }
 {
     let answer = cut_answer(weights, &marks[..], counts, k);
     if number_of(answer) == 0 {
@@ -85,7 +87,7 @@ pub fn cut(weights: &[u32], marks: &mut [u8], counts: &[u64], k: usize) -> Answe
 
 // Removes the cut at boundary k.
 pub fn uncut(weights: &[u32], marks: &mut [u8], counts: &[u64], k: usize) -> Answer
-    ensures { UncutMet (account_in weights.entry marks.entry counts.entry) k (number result) (account_in weights.exit marks.exit counts.exit) }
+    ensures { UncutMet (account weights.now marks.old counts.now) k (number result) (account weights.now marks.new counts.now) }
 {
     let answer = uncut_answer(weights, &marks[..], counts, k);
     if number_of(answer) == 0 {
@@ -97,7 +99,7 @@ pub fn uncut(weights: &[u32], marks: &mut [u8], counts: &[u64], k: usize) -> Ans
 
 // Rows 3 and 5 for a whole account: 3, 5, or 0 for neither. Reading, withdraw, cut, uncut and the statement check them first.
 pub fn check(weights: &[u32], marks: &[u8], counts: &[u64]) -> u8
-    ensures check_met { CheckMet (account_in weights.entry marks.entry counts.entry) result (account_in weights.exit marks.exit counts.exit) }
+    ensures check_met { CheckMet (account weights.now marks.now counts.now) result (account weights.now marks.now counts.now) }
     ensures energy_most_value { ENERGY_MOST ≡ energy_most }
 {
     if unfit(weights.len(), marks.len(), counts.len()) {

@@ -1,6 +1,6 @@
 // When an account fits and when its marks and counts are sound (Account and its calls).
 ghost use Rattle.std.specs.Prelude.{◌≡◌};
-ghost use Rattle.account.specs.Account.{account_in, unfit_lengths};
+ghost use Rattle.account.specs.Account.{account, unfit_lengths};
 ghost use Rattle.account.specs.Slices.{Fit, good_boundaries};
 
 use crate::is_reading;
@@ -24,8 +24,8 @@ pub(crate) fn unfit(n: usize, marks: usize, counts: usize) -> bool
 
 // In one pass: marks 0 to 3, no count without a reading, readings never falling. `last` is the last reading's count, 0 before the first.
 pub(crate) fn good_boundaries(weights: &[u32], marks: &[u8], counts: &[u64]) -> bool
-    requires { Fit (account_in weights marks counts) }
-    ensures { result ≡ good_boundaries (account_in weights.entry marks.entry counts.entry) }
+    requires { Fit (account weights.now marks.now counts.now) }
+    ensures { result ≡ good_boundaries (account weights.now marks.now counts.now) }
 {
     let mut last: u64 = 0;
     let mut k = 0;

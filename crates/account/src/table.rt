@@ -2,7 +2,7 @@
 ghost use Rattle.std.specs.Prelude.{ℕ, suc, ◌<◌, ◌≡◌, true, ◌&&◌, ◌||◌, ltb, length};
 ghost use Rattle.common.specs.Below.{first, last};
 ghost use Rattle.account.specs.Stands.{put, with_reading, last_less_first};
-ghost use Rattle.account.specs.Account.{account_in, shown, readings_in, marks_reading};
+ghost use Rattle.account.specs.Account.{account, shown, readings_in, marks_reading};
 ghost use Rattle.account.specs.Refusals.{out_of_order, reading_number, withdraw_number, cut_number, uncut_number};
 ghost use Rattle.account.specs.Calls.{number};
 ghost use Rattle.account.specs.Slices.{Fit, boundary_rows, next_row, reads_at, count_at};
@@ -12,7 +12,7 @@ use crate::{Answer, ENERGY_MOST, check, is_reading, number_of};
 
 // The rows of every call on a boundary: 3, 5 and 6.
 fn boundary_answer(weights: &[u32], marks: &[u8], counts: &[u64], k: usize) -> Answer
-    ensures { number result ≡ boundary_rows (account_in weights.entry marks.entry counts.entry) k 0 }
+    ensures { number result ≡ boundary_rows (account weights.now marks.now counts.now) k 0 }
 {
     let n = check(weights, marks, counts);
     if n == 3 {
@@ -42,7 +42,7 @@ fn next_row(answer: Answer, holds: bool, refusal: Answer) -> Answer
 
 // Withdraw: 3, 5, 6, 10.
 pub(crate) fn withdraw_answer(weights: &[u32], marks: &[u8], counts: &[u64], k: usize) -> Answer
-    ensures { number result ≡ withdraw_number (account_in weights.entry marks.entry counts.entry) k }
+    ensures { number result ≡ withdraw_number (account weights.now marks.now counts.now) k }
 {
     let answer = boundary_answer(weights, marks, counts, k);
     next_row(answer, !is_reading(mark_at(marks, k)), Answer::NotThere)
@@ -50,7 +50,7 @@ pub(crate) fn withdraw_answer(weights: &[u32], marks: &[u8], counts: &[u64], k: 
 
 // Cut: 3, 5, 6, 7.
 pub(crate) fn cut_answer(weights: &[u32], marks: &[u8], counts: &[u64], k: usize) -> Answer
-    ensures { number result ≡ cut_number (account_in weights.entry marks.entry counts.entry) k }
+    ensures { number result ≡ cut_number (account weights.now marks.now counts.now) k }
 {
     let answer = boundary_answer(weights, marks, counts, k);
     next_row(answer, is_cut(mark_at(marks, k)), Answer::AlreadyThere)
@@ -58,7 +58,7 @@ pub(crate) fn cut_answer(weights: &[u32], marks: &[u8], counts: &[u64], k: usize
 
 // Uncut: 3, 5, 6, 10.
 pub(crate) fn uncut_answer(weights: &[u32], marks: &[u8], counts: &[u64], k: usize) -> Answer
-    ensures { number result ≡ uncut_number (account_in weights.entry marks.entry counts.entry) k }
+    ensures { number result ≡ uncut_number (account weights.now marks.now counts.now) k }
 {
     let answer = boundary_answer(weights, marks, counts, k);
     next_row(answer, !is_cut(mark_at(marks, k)), Answer::NotThere)
@@ -72,7 +72,7 @@ pub(crate) fn reading_answer(
     k: usize,
     v: u64,
 ) -> Answer
-    ensures { number result ≡ reading_number (account_in weights.entry marks.entry counts.entry) k v }
+    ensures { number result ≡ reading_number (account weights.now marks.now counts.now) k v }
 {
     let answer = boundary_answer(weights, marks, counts, k);
     if number_of(answer) != 0 {
@@ -92,8 +92,8 @@ pub(crate) fn reading_answer(
 
 // 8: "count below an earlier or above a later reading"
 fn out_of_order(weights: &[u32], marks: &[u8], counts: &[u64], k: usize, v: u64) -> bool
-    requires { Fit (account_in weights marks counts) }
-    ensures { result ≡ out_of_order (length weights.now) (shown (account_in weights.entry marks.entry counts.entry)).readings k v }
+    requires { Fit (account weights.now marks.now counts.now) }
+    ensures { result ≡ out_of_order (length weights.now) (shown (account weights.now marks.now counts.now)).readings k v }
 {
     let mut j = 0;
     while j <= weights.len() {

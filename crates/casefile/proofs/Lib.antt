@@ -12,8 +12,6 @@ pub mod Ordered
 pub mod Sound
 pub mod Agreed
 pub mod Taken
-pub mod Held
-pub mod Again
 pub mod LongestTaken
 pub mod Longest
 pub mod Enough

@@ -1,4 +1,6 @@
 // The reader of case files (Case file): from the bytes of a file to the slices of an account.
+#![tactic(auto)]
+
 mod bytes;
 mod clear;
 mod cuts;
@@ -7,7 +9,7 @@ mod readings;
 mod sections;
 mod span;
 
-ghost use Rattle.account.specs.Account.{account_in};
+ghost use Rattle.account.specs.Account.{account};
 ghost use Rattle.casefile.specs.Reader.{number, place, days, ReadMet};
 ghost use Rattle.casefile.specs.Sections.{AllClear, FillMet};
 
@@ -18,7 +20,7 @@ use sections::{SectionEnd, ended};
 use span::weigh;
 
 // What the reader answers: n, or a row of the table with its place.
-#[derive(Drop)]
+#[derive(Clone, Copy)]
 pub enum CaseAnswer {
     Days(usize),
     Refused(u8, usize),
@@ -31,7 +33,7 @@ pub fn read_case(
     marks: &mut [u8],
     counts: &mut [u64],
 ) -> CaseAnswer
-    ensures { ReadMet file.now (account_in weights.entry marks.entry counts.entry) (number result) (place result) (days result) (account_in weights.exit marks.exit counts.exit) file.now }
+    ensures { ReadMet file.now (account weights.old marks.old counts.old) (number result) (place result) (days result) (account weights.new marks.new counts.new) file.now }
 {
     if weights.len() != Profile::SPAN_MOST {
         return CaseAnswer::Refused(3, 0);
@@ -58,8 +60,8 @@ fn read_sections(
     marks: &mut [u8],
     counts: &mut [u64],
 ) -> SectionEnd
-    requires { AllClear (account_in weights marks counts) }
-    ensures { FillMet file.now result (account_in weights.exit marks.exit counts.exit) }
+    requires { AllClear (account weights.old marks.old counts.old) }
+    ensures { FillMet file.now result (account weights.new marks.new counts.new) }
 {
     let mut means = [0i16; Profile::SPAN_MOST + 3];
     let end = ended(file, fill(file, &mut means, marks, counts));

@@ -8,7 +8,7 @@ use crate::readings::readings_at;
 use crate::sections::SectionEnd;
 use crate::span::span_at;
 
-#[derive(Drop)]
+#[derive(Clone, Copy)]
 pub struct Reader<'a> {
     pub file: &'a [u8],
     pub at: usize,

@@ -10,7 +10,7 @@ use crate::sections::{SectionEnd, passed, refused};
 use account::ENERGY_MOST;
 
 // One reading of the file, or its fault.
-#[derive(Drop)]
+#[derive(Clone, Copy)]
 pub(crate) struct Reading {
     // The table's number; 0 where there is no fault.
     pub(crate) number: u8,

@@ -2,7 +2,7 @@
 ghost use Rattle.std.specs.Prelude.{◌≡◌};
 ghost use Rattle.casefile.specs.Sections.{EndedMet};
 
-#[derive(Drop)]
+#[derive(Clone, Copy)]
 pub(crate) struct SectionEnd {
     // The table's number; 0 where no fault was met.
     pub(crate) number: u8,

@@ -1,17 +1,39 @@
 // The example files (Case file): each file that an argument names, its name and then the text that `arvadush` prints for it.
+#![tactic(auto)]
+
+ghost use Rattle.std.specs.Prelude.{◌≤◌, length, IfOk};
+
 use layout::TEXT_MOST;
-use libc::STDOUT_FILENO;
 use profile::Profile;
 use report::{BYTES_READ, case_text};
+use std::env::FillError;
+use std::io::Read;
+use std::rt::{Env, Files};
+use std::{fs, io, str};
 
-// Prints the text of the case file that is read from fd, as `arvadush` does.
-fn print_case(fd: i32) {
+// Reads until the buffer is full or the input ends; how many bytes were put at its start.
+fn read_full(input: &mut impl Read, buffer: &mut [u8]) -> io::Result<usize>
+    ensures { IfOk result (λ n. n ≤ length buffer.new) }
+{
+    let mut done = 0;
+    while done < buffer.len() {
+        let n = input.read(&mut buffer[done..])?;
+        if n == 0 {
+            break;
+        }
+        done += n;
+    }
+    Ok(done)
+}
+
+// Prints the text of the case file that is read from input, as `arvadush` does.
+fn print_case(rt: &impl Print, input: &mut impl Read) -> io::Result<()> {
     let mut weights = [0u32; Profile::SPAN_MOST];
     let mut marks = [0u8; Profile::SPAN_MOST + 1];
     let mut counts = [0u64; Profile::SPAN_MOST + 1];
     let mut file = [0u8; BYTES_READ];
     let mut text = [0u8; TEXT_MOST];
-    let read = io::read_full(fd, &mut file);
+    let read = read_full(input, &mut file)?;
     let length = case_text(
         &file[..read],
         &mut weights,
@@ -19,34 +41,43 @@ fn print_case(fd: i32) {
         &mut counts,
         &mut text,
     );
-    io::write_all(STDOUT_FILENO, &text[..length]);
+    rt.write_all(&text[..length])
 }
 
-// The name of a file, and its text.
-fn print_named(path: &[u8]) {
-    io::write_all(STDOUT_FILENO, path);
-    io::write_all(STDOUT_FILENO, b"\n");
-    let fd = os::open_read(path);
-    if fd < 0 {
-        os::fail(path);
-        return;
+// The text of the file at a path; where it cannot be opened, the reason, to standard error.
+fn print_file(rt: &(impl Print + Eprint + Files), path: &str) -> io::Result<()> {
+    match fs::open(rt, path) {
+        Ok(mut file) => print_case(rt, &mut file),
+        Err(error) => eprintln!(rt; "{path}: {error}"),
     }
-    print_case(fd);
-    libc::close(fd);
 }
 
-// The file that an argument names.
-fn print_arg(i: usize) {
-    let mut path = io::buffer();
-    let n = os::arg(i, &mut path);
-    print_named(&path[..n]);
-}
-
-fn main() {
-    let count = os::arg_count();
-    let mut i = 1;
-    while i < count {
-        print_arg(i);
-        i += 1;
+// The name of a file, and its text. No file with a name that is not UTF-8 is opened.
+fn print_named(rt: &(impl Print + Eprint + Files), path: &[u8]) -> io::Result<()> {
+    rt.write_all(path)?;
+    rt.write_all(b"\n")?;
+    match str::from_utf8(path) {
+        Ok(path) => print_file(rt, path),
+        Err(error) => eprintln!(rt; "{error}"),
     }
+}
+
+// The file that an argument names; whether there is such an argument.
+fn print_arg(rt: &(impl Print + Eprint + Files + Env), i: usize) -> io::Result<bool> {
+    let mut path = [0u8; 4096];
+    match rt.arg(i, &mut path) {
+        Ok(n) => print_named(rt, &path[..n])?,
+        Err(FillError::TooLong) => eprintln!(rt; "argument {i}: too long a name")?,
+        Err(FillError::NotPresent) => return Ok(false),
+    }
+    Ok(true)
+}
+
+fn main(rt: HostRuntime) -> io::Result<()> {
+    for i in 1..usize::MAX {
+        if !print_arg(&rt, i)? {
+            break;
+        }
+    }
+    Ok(())
 }

@@ -9,7 +9,6 @@ use lib.Dec.{leb, ltb}
 use lib.IntN.{ℤ}
 use lib.ListN.{length, take, drop, replicate}
 use lib.Seq.{take_at}
-use Rattle.common.specs.Rows.{row}
 use Rattle.common.proofs.Rows.{rows_none}
 use Rattle.profile.specs.Limits.{profile_count}
 use Rattle.weights.specs.Means.{some_out}

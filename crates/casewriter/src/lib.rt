@@ -1,4 +1,6 @@
 // The writer of case files (K2): from profile, weekday, means, marks and counts of an account to the bytes of its file.
+#![tactic(auto)]
+
 mod bytes;
 mod sections;
 
@@ -12,7 +14,7 @@ use profile::Profile;
 use sections::{count_marks, file_end, fill};
 
 // What the writer answers: the length of the file, or a row of the table with its place.
-#[derive(Drop)]
+#[derive(Clone, Copy)]
 pub enum WriteAnswer {
     Length(usize),
     Refused(u8, usize),

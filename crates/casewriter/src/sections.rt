@@ -10,7 +10,7 @@ use crate::bytes::{number, twos};
 use account::is_reading;
 
 // How many readings and cuts an account has.
-#[derive(Drop)]
+#[derive(Clone, Copy)]
 pub(crate) struct Marked {
     pub(crate) readings: usize,
     pub(crate) cuts: usize,

@@ -1,4 +1,6 @@
 // Slices set to zero over their whole length (If a call declines: "outputs zero"), one loop for each width.
+#![tactic(auto)]
+
 ghost use Rattle.std.specs.Prelude.{◌≡◌};
 ghost use Rattle.common.specs.Rows.{zeros};
 

@@ -1,4 +1,6 @@
 // Customer value and daily amount, on lent weights and single numbers (Customer value and daily amount, If a call declines).
+#![tactic(auto)]
+
 ghost use Rattle.std.specs.Prelude.{◌≡◌, ◌≤◌, length};
 ghost use Rattle.profile.specs.Limits.{span_most};
 ghost use Rattle.common.specs.Lists.{sum_of};
@@ -15,7 +17,7 @@ const VALUE_MOST: u64 = 1_000_000_000_000;
 const UNITS: u64 = 10_000_000;
 
 // A customer value or a daily amount, or a row of the table.
-#[derive(Drop)]
+#[derive(Clone, Copy)]
 pub enum CustomerAnswer {
     Given(u64),
     Unfit,

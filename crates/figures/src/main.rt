@@ -1,38 +1,40 @@
 // Prints outside numbers through the exported calls, to be compared with the stored output (Starred cases, "By program", K1, K5).
+#![tactic(auto)]
+
 ghost use Rattle.std.specs.Prelude.{◌<◌};
 
 use customer::CustomerAnswer;
-use libc::STDOUT_FILENO;
 use profile::{Profile, ValueAnswer, WeightAnswer};
 use residual::SpreadAnswer;
+use std::io;
 use weights::TemperatureAnswer;
 
 // The least and the greatest of the weights seen so far.
-#[derive(Drop)]
+#[derive(Clone, Copy)]
 struct Range {
     least: u32,
     most: u32,
 }
 
-fn word(text: &[u8]) {
-    io::write_all(STDOUT_FILENO, text);
+fn word(rt: &impl Print, text: &[u8]) -> io::Result<()> {
+    rt.write_all(text)
 }
 
-fn number(n: u64) {
-    io::print_decimal(STDOUT_FILENO, n);
+fn number(rt: &impl Print, n: u64) -> io::Result<()> {
+    rt.print(n)
 }
 
-fn labelled(label: &[u8], n: u64) {
-    word(label);
-    number(n);
+fn labelled(rt: &impl Print, label: &[u8], n: u64) -> io::Result<()> {
+    word(rt, label)?;
+    number(rt, n)
 }
 
-fn refused(row: u64) {
-    labelled(b"refused ", row);
+fn refused(rt: &impl Print, row: u64) -> io::Result<()> {
+    labelled(rt, b"refused ", row)
 }
 
-fn end_line() {
-    word(b"\n");
+fn end_line(rt: &impl Print) -> io::Result<()> {
+    word(rt, b"\n")
 }
 
 fn from_u16(x: u16) -> u64
@@ -60,81 +62,83 @@ fn size(x: i64) -> u64 {
     (0 - x) as u64
 }
 
-fn signed(x: i64) {
+fn signed(rt: &impl Print, x: i64) -> io::Result<()> {
     if x < 0 {
-        word(b"-");
+        word(rt, b"-")?;
     }
-    number(size(x));
+    number(rt, size(x))
 }
 
 // The five letters of a profile's name.
-fn letters(names: &[u8], profile: u8) {
+fn letters(rt: &impl Print, names: &[u8], profile: u8) -> io::Result<()> {
     let from = 5 * (profile as usize);
     let to = from + 5;
     if to <= names.len() {
-        word(&names[from..to]);
+        word(rt, &names[from..to])?;
     }
+    Ok(())
 }
 
-fn name(profile: u8) {
+fn name(rt: &impl Print, profile: u8) -> io::Result<()> {
     letters(
+        rt,
         b"HEF33HMF33HKO03GHD33GMK33GKO33GBH33GBA33GGA33GMF33",
         profile,
-    );
+    )
 }
 
 // The allocation temperature of document 000, today first: -2.0, 0.5, 3.4, 3.6 degrees.
-fn temperature() {
-    word(b"temperature of -200, 50, 340, 360: ");
+fn temperature(rt: &impl Print) -> io::Result<()> {
+    word(rt, b"temperature of -200, 50, 340, 360: ")?;
     match weights::temperature(-200, 50, 340, 360) {
-        TemperatureAnswer::Temperature(t) => signed(from_i16(t)),
-        TemperatureAnswer::OutOfRange(_) => refused(4),
-    }
-    end_line();
+        TemperatureAnswer::Temperature(t) => signed(rt, from_i16(t)),
+        TemperatureAnswer::OutOfRange(_) => refused(rt, 4),
+    }?;
+    end_line(rt)
 }
 
-fn bounds(low: i64, high: i64) {
-    signed(low);
-    word(b" to ");
-    signed(high);
+fn bounds(rt: &impl Print, low: i64, high: i64) -> io::Result<()> {
+    signed(rt, low)?;
+    word(rt, b" to ")?;
+    signed(rt, high)
 }
 
 // A profile's value at a temperature in hundredths, low and high, in units of 10^-9.
-fn value(profile: u8, t: i16) {
-    name(profile);
-    word(b" at ");
-    signed(from_i16(t));
-    word(b": ");
+fn value(rt: &impl Print, profile: u8, t: i16) -> io::Result<()> {
+    name(rt, profile)?;
+    word(rt, b" at ")?;
+    signed(rt, from_i16(t))?;
+    word(rt, b": ")?;
     match profile::value(profile, t) {
-        ValueAnswer::Value { low, high } => bounds(low, high),
-        ValueAnswer::NoProfile => refused(1),
-        ValueAnswer::OutOfRange(_) => refused(4),
-    }
-    end_line();
+        ValueAnswer::Value { low, high } => bounds(rt, low, high),
+        ValueAnswer::NoProfile => refused(rt, 1),
+        ValueAnswer::OutOfRange(_) => refused(rt, 4),
+    }?;
+    end_line(rt)
 }
 
 // The ten profiles at 8.00 degrees; the one whose ratio is one at 7.00; and where the larger of the two lines changes
 // (document 000, column Temp.-KP), with one hundredth above.
-fn values() {
-    value(0, 800);
-    value(1, 800);
-    value(2, 800);
-    value(3, 800);
-    value(4, 800);
-    value(5, 800);
-    value(6, 800);
-    value(7, 800);
-    value(8, 800);
-    value(9, 800);
-    value(7, 700);
-    value(0, 1546);
-    value(0, 1547);
-    value(3, 1472);
-    value(3, 1473);
-    value(7, 869);
-    value(7, 870);
-    value(5, 1480);
-    value(5, 1481);
+fn values(rt: &impl Print) -> io::Result<()> {
+    value(rt, 0, 800)?;
+    value(rt, 1, 800)?;
+    value(rt, 2, 800)?;
+    value(rt, 3, 800)?;
+    value(rt, 4, 800)?;
+    value(rt, 5, 800)?;
+    value(rt, 6, 800)?;
+    value(rt, 7, 800)?;
+    value(rt, 8, 800)?;
+    value(rt, 9, 800)?;
+    value(rt, 7, 700)?;
+    value(rt, 0, 1546)?;
+    value(rt, 0, 1547)?;
+    value(rt, 3, 1472)?;
+    value(rt, 3, 1473)?;
+    value(rt, 7, 869)?;
+    value(rt, 7, 870)?;
+    value(rt, 5, 1480)?;
+    value(rt, 5, 1481)
 }
 
 // Whether a value, in units of 10^-9, lies within 0.00001 of 1.
@@ -151,14 +155,14 @@ fn value_near_one(profile: u8, t: i16) -> bool {
     }
 }
 
-fn near() {
-    word(b"GHD33 at 800 within 0.00001 of 1: ");
+fn near(rt: &impl Print) -> io::Result<()> {
+    word(rt, b"GHD33 at 800 within 0.00001 of 1: ")?;
     if value_near_one(3, 800) {
-        word(b"yes");
+        word(rt, b"yes")?;
     } else {
-        word(b"no");
+        word(rt, b"no")?;
     }
-    end_line();
+    end_line(rt)
 }
 
 // The sum of a profile's weekday factors.
@@ -173,24 +177,24 @@ fn week(profile: u8) -> u64 {
     sum
 }
 
-fn factors(profile: u8) {
-    name(profile);
-    labelled(b" factors: ", week(profile));
-    end_line();
+fn factors(rt: &impl Print, profile: u8) -> io::Result<()> {
+    name(rt, profile)?;
+    labelled(rt, b" factors: ", week(profile))?;
+    end_line(rt)
 }
 
 // Each row of table 5 adds up to 70,000.
-fn weeks() {
-    factors(0);
-    factors(1);
-    factors(2);
-    factors(3);
-    factors(4);
-    factors(5);
-    factors(6);
-    factors(7);
-    factors(8);
-    factors(9);
+fn weeks(rt: &impl Print) -> io::Result<()> {
+    factors(rt, 0)?;
+    factors(rt, 1)?;
+    factors(rt, 2)?;
+    factors(rt, 3)?;
+    factors(rt, 4)?;
+    factors(rt, 5)?;
+    factors(rt, 6)?;
+    factors(rt, 7)?;
+    factors(rt, 8)?;
+    factors(rt, 9)
 }
 
 fn wider(range: Range, w: u32) -> Range {
@@ -249,71 +253,77 @@ fn whole_table() -> Range {
 }
 
 // All ten profiles, seven weekdays and 9,000 temperatures.
-fn table() {
+fn table(rt: &impl Print) -> io::Result<()> {
     let range = whole_table();
-    labelled(b"weights over the whole table: ", from_u32(range.least));
-    labelled(b" to ", from_u32(range.most));
-    end_line();
+    labelled(rt, b"weights over the whole table: ", from_u32(range.least))?;
+    labelled(rt, b" to ", from_u32(range.most))?;
+    end_line(rt)
 }
 
 // The weights of three days, from six means of 10.00 degrees.
-fn three_days(label: &[u8], profile: u8, weekday: u8, calendar: &[u8]) {
+fn three_days(
+    rt: &impl Print,
+    label: &[u8],
+    profile: u8,
+    weekday: u8,
+    calendar: &[u8],
+) -> io::Result<()> {
     let means = [1000i16; 6];
     let mut out = [0u32; 3];
     weights::weights(profile, weekday, &means, calendar, &mut out);
-    labelled(label, from_u32(out[0]));
-    labelled(b" ", from_u32(out[1]));
-    labelled(b" ", from_u32(out[2]));
-    end_line();
+    labelled(rt, label, from_u32(out[0]))?;
+    labelled(rt, b" ", from_u32(out[1]))?;
+    labelled(rt, b" ", from_u32(out[2]))?;
+    end_line(rt)
 }
 
 // The paper's example, from a Monday; and a bakery's days from a Thursday, first a working day, then a holiday.
-fn spans() {
+fn spans(rt: &impl Print) -> io::Result<()> {
     let own = [7u8; 3];
     let holiday = [6u8, 7, 7];
-    three_days(b"weights of the example: ", 0, 0, &own);
-    three_days(b"GBA33 from a working Thursday: ", 7, 3, &own);
-    three_days(b"GBA33 from a Thursday holiday: ", 7, 3, &holiday);
+    three_days(rt, b"weights of the example: ", 0, 0, &own)?;
+    three_days(rt, b"GBA33 from a working Thursday: ", 7, 3, &own)?;
+    three_days(rt, b"GBA33 from a Thursday holiday: ", 7, 3, &holiday)
 }
 
-fn answered(answer: CustomerAnswer) {
+fn answered(rt: &impl Print, answer: CustomerAnswer) -> io::Result<()> {
     match answer {
-        CustomerAnswer::Given(n) => number(n),
-        CustomerAnswer::Unfit => refused(3),
-        CustomerAnswer::Unsound => refused(5),
-        CustomerAnswer::TooMuch => refused(9),
-        CustomerAnswer::TooGreat => refused(12),
-    }
-    end_line();
+        CustomerAnswer::Given(n) => number(rt, n),
+        CustomerAnswer::Unfit => refused(rt, 3),
+        CustomerAnswer::Unsound => refused(rt, 5),
+        CustomerAnswer::TooMuch => refused(rt, 9),
+        CustomerAnswer::TooGreat => refused(rt, 12),
+    }?;
+    end_line(rt)
 }
 
 // The customer value over sixty weights that add up to z.
-fn customer_value(energy: u64, z: u32) {
+fn customer_value(rt: &impl Print, energy: u64, z: u32) -> io::Result<()> {
     let each = z / 60;
     let mut weights = [each; 60];
     weights[0] = each + z % 60;
-    labelled(b"customer value of ", energy);
-    labelled(b" Wh over ", from_u32(z));
-    word(b": ");
-    answered(customer::customer_value(energy, &weights));
+    labelled(rt, b"customer value of ", energy)?;
+    labelled(rt, b" Wh over ", from_u32(z))?;
+    word(rt, b": ")?;
+    answered(rt, customer::customer_value(energy, &weights))
 }
 
-fn daily_amount(value: u64, weight: u32) {
-    labelled(b"daily amount of ", value);
-    labelled(b" with weight ", from_u32(weight));
-    word(b": ");
-    answered(customer::daily_amount(value, weight));
+fn daily_amount(rt: &impl Print, value: u64, weight: u32) -> io::Result<()> {
+    labelled(rt, b"daily amount of ", value)?;
+    labelled(rt, b" with weight ", from_u32(weight))?;
+    word(rt, b": ")?;
+    answered(rt, customer::daily_amount(value, weight))
 }
 
 // The examples of document 000 (tables 18 to 23, and the daily amounts of two customers beside them), and the largest customer value.
-fn customers() {
-    customer_value(23_185_000, 329_581_001);
-    customer_value(958_000, 379_356_309);
-    customer_value(223_185_000, 397_727_400);
-    customer_value(2_000_000_000, 20_000);
-    customer_value(2_000_000_000, 19_999);
-    daily_amount(500_000, 2_016_134);
-    daily_amount(4_000_000, 2_360_152);
+fn customers(rt: &impl Print) -> io::Result<()> {
+    customer_value(rt, 23_185_000, 329_581_001)?;
+    customer_value(rt, 958_000, 379_356_309)?;
+    customer_value(rt, 223_185_000, 397_727_400)?;
+    customer_value(rt, 2_000_000_000, 20_000)?;
+    customer_value(rt, 2_000_000_000, 19_999)?;
+    daily_amount(rt, 500_000, 2_016_134)?;
+    daily_amount(rt, 4_000_000, 2_360_152)
 }
 
 // Two readings with a cut between them.
@@ -325,7 +335,7 @@ fn record(weights: &[u32], marks: &mut [u8], counts: &mut [u64]) {
 }
 
 // The example of document 002.
-fn split() {
+fn split(rt: &impl Print) -> io::Result<()> {
     let weights = [9_870u32, 21_478];
     let mut marks = [0u8; 3];
     let mut counts = [0u64; 3];
@@ -334,36 +344,36 @@ fn split() {
     let mut to = [0u16; 2];
     let mut wh = [0u64; 2];
     statement::statement(&weights, &marks, &counts, &mut from, &mut to, &mut wh);
-    labelled(b"split of 25424000 Wh: ", wh[0]);
-    labelled(b" ", wh[1]);
-    end_line();
+    labelled(rt, b"split of 25424000 Wh: ", wh[0])?;
+    labelled(rt, b" ", wh[1])?;
+    end_line(rt)
 }
 
 // Some numbers on a line.
-fn each(label: &[u8], numbers: &[u64]) {
-    word(label);
+fn each(rt: &impl Print, label: &[u8], numbers: &[u64]) -> io::Result<()> {
+    word(rt, label)?;
     let mut i = 0;
     while i < numbers.len() {
-        labelled(b" ", numbers[i]);
+        labelled(rt, b" ", numbers[i])?;
         i += 1;
     }
-    end_line();
+    end_line(rt)
 }
 
-fn network(answer: SpreadAnswer) {
-    word(b"residual load, network: ");
+fn network(rt: &impl Print, answer: SpreadAnswer) -> io::Result<()> {
+    word(rt, b"residual load, network: ")?;
     match answer {
-        SpreadAnswer::Total(n) => number(n),
-        SpreadAnswer::Unfit => refused(3),
-        SpreadAnswer::BadList => refused(16),
-        SpreadAnswer::TooMuch => refused(17),
-        SpreadAnswer::NoBase => refused(18),
-    }
-    end_line();
+        SpreadAnswer::Total(n) => number(rt, n),
+        SpreadAnswer::Unfit => refused(rt, 3),
+        SpreadAnswer::BadList => refused(rt, 16),
+        SpreadAnswer::TooMuch => refused(rt, 17),
+        SpreadAnswer::NoBase => refused(rt, 18),
+    }?;
+    end_line(rt)
 }
 
 // The twenty points of document 000 (tables 1 and 10): bases in tenths of a Wh, suppliers A and B as 0 and 1, a load of 2,250,000 Wh.
-fn points() {
+fn points(rt: &impl Print) -> io::Result<()> {
     let suppliers = [0u8, 0, 0, 1, 1, 1, 1, 1, 1, 1, 1, 1, 0, 0, 0, 0, 0, 0, 1, 1];
     let bases = [
         573_261u64, 617_358, 749_650, 705_552, 602_659, 661_455, 823_145, 720_251, 690_853,
@@ -373,20 +383,20 @@ fn points() {
     let mut amounts = [0u64; 20];
     let mut totals = [0u64; 64];
     let answer = residual::spread(2_250_000, &suppliers, &bases, &mut amounts, &mut totals);
-    each(b"residual load, points:", &amounts);
+    each(rt, b"residual load, points:", &amounts)?;
     let two = [totals[0], totals[1]];
-    each(b"residual load, suppliers:", &two);
-    network(answer);
+    each(rt, b"residual load, suppliers:", &two)?;
+    network(rt, answer)
 }
 
-fn main() {
-    temperature();
-    values();
-    near();
-    weeks();
-    table();
-    spans();
-    customers();
-    split();
-    points();
+fn main(rt: HostRuntime) -> io::Result<()> {
+    temperature(&rt)?;
+    values(&rt)?;
+    near(&rt)?;
+    weeks(&rt)?;
+    table(&rt)?;
+    spans(&rt)?;
+    customers(&rt)?;
+    split(&rt)?;
+    points(&rt)
 }

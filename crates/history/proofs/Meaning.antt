@@ -4,7 +4,7 @@ use mathlib.Core.Path.{◌≡◌, refl, sym, ◌∙◌}
 use mathlib.Core.Bool.{true, false}
 use mathlib.Core.List.{List, []}
 use lib.Dec.{leb, ltb, lit<}
-use lib.ListN.{length, get_or}
+use lib.ListN.{get_or}
 use lib.Seq.{ext_get_or}
 use native.Mathlib.Omega.{arith}
 use Rattle.rounding.specs.Nearest.{nearest}
@@ -22,7 +22,6 @@ use Rattle.statement.specs.Parts.{Outputs, marked, parts_below}
 use Rattle.statement.specs.Shares.{Adjacent, Shared, total, energy}
 use Rattle.history.specs.History.{stands_from}
 use Rattle.history.specs.Run.{Event, standing}
-use Rattle.history.specs.Run as run
 use Rattle.history.specs.Demand3.{Demand3, Given}
 use Rattle.history.specs.Meaning.{EveryAmong, EveryGiven, CarriesOne, EveryWeighed, EveryListHolds, until_first, until_second, until_end, three_days, two_readings, Said, TwoStatements}
 

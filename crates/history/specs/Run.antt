@@ -3,7 +3,6 @@
 use Rattle.std.specs.Prelude.{ℕ, List, [], ◌∷◌, map, length}
 use Rattle.account.specs.Stands.{Stands}
 use Rattle.account.specs.Account.{Account}
-use Rattle.common.specs.Rows.{row}
 use Rattle.account.specs.Refusals.{reading_rows, withdraw_rows, cut_rows, uncut_rows}
 use Rattle.account.specs.Calls.{ReadingMet, WithdrawMet, CutMet, UncutMet}
 use Rattle.statement.specs.Parts.{Outputs}

@@ -4,7 +4,7 @@
 use Rattle.std.specs.Prelude.{◌≡◌}
 use contract.Lifetimes
 use borrow.Fn.Kinds
-use Rattle.account.specs.Account.{account_in}
+use Rattle.account.specs.Account.{account}
 use Rattle.account.specs.Calls.{number, OpenMet}
 use Rattle.account.proofs.open.Kinds as open-kinds
 use Rattle.account.proofs.open.Reads as open-reads
@@ -20,7 +20,7 @@ use Rattle.weights.specs.Weights.{WeightsMet}
 use Rattle.weights.specs.Weights as weights
 use Rattle.weights.proofs.weights.Kinds as weights-kinds
 use Rattle.weights.proofs.weights.Reads as weights-reads
-use Rattle.statement.specs.Parts.{outputs_in}
+use Rattle.statement.specs.Parts.{outputs}
 use Rattle.statement.specs.Call as statement
 use Rattle.statement.proofs.statement.Kinds as statement-kinds
 use Rattle.statement.proofs.statement.Reads as statement-reads
@@ -34,25 +34,25 @@ AsksNothing {Lifetimes} {Arguments} requires = (κs : Lifetimes) (a : Arguments 
 -- a: what the function is given; r: what it answers; s: what its references show after it
 pub record Tied : Type 1 where
   pub open_is : (κs : Lifetimes.Lfts 3) (a : Kinds.Dens κs open-kinds.ps) (r : _) (s : _) →
-      open-reads.Post κs a r s ≡ OpenMet (account_in a.0 a.1.0 a.1.1.0) (number r) (account_in s.0 s.1.0 s.1.1.0)
+      open-reads.Post κs a r s ≡ OpenMet (account a.0.now a.1.0.now a.1.1.0.now) (number r) (account a.0.now s.1.0.now s.1.1.0.now)
   pub reading_is : (κs : Lifetimes.Lfts 3) (a : Kinds.Dens κs reading-kinds.ps) (r : _) (s : _) →
       reading-reads.Post κs a r s ≡
-      Step (account_in a.0 a.1.0 a.1.1.0) (run.reading a.1.1.1.0 a.1.1.1.1.0 (number r) (account_in s.0 s.1.0 s.1.1.0))
+      Step (account a.0.now a.1.0.now a.1.1.0.now) (run.reading a.1.1.1.0 a.1.1.1.1.0 (number r) (account a.0.now s.1.0.now s.1.1.0.now))
   pub withdraw_is : (κs : Lifetimes.Lfts 3) (a : Kinds.Dens κs withdraw-kinds.ps) (r : _) (s : _) →
       withdraw-reads.Post κs a r s ≡
-      Step (account_in a.0 a.1.0 a.1.1.0) (run.withdraw a.1.1.1.0 (number r) (account_in s.0 s.1.0 s.1.1.0))
+      Step (account a.0.now a.1.0.now a.1.1.0.now) (run.withdraw a.1.1.1.0 (number r) (account a.0.now s.1.0.now s.1.1.0.now))
   pub cut_is : (κs : Lifetimes.Lfts 3) (a : Kinds.Dens κs cut-kinds.ps) (r : _) (s : _) →
-      cut-reads.Post κs a r s ≡ Step (account_in a.0 a.1.0 a.1.1.0) (run.cut a.1.1.1.0 (number r) (account_in s.0 s.1.0 s.1.1.0))
+      cut-reads.Post κs a r s ≡ Step (account a.0.now a.1.0.now a.1.1.0.now) (run.cut a.1.1.1.0 (number r) (account a.0.now s.1.0.now a.1.1.0.now))
   pub uncut_is : (κs : Lifetimes.Lfts 3) (a : Kinds.Dens κs uncut-kinds.ps) (r : _) (s : _) →
-      uncut-reads.Post κs a r s ≡ Step (account_in a.0 a.1.0 a.1.1.0) (run.uncut a.1.1.1.0 (number r) (account_in s.0 s.1.0 s.1.1.0))
+      uncut-reads.Post κs a r s ≡ Step (account a.0.now a.1.0.now a.1.1.0.now) (run.uncut a.1.1.1.0 (number r) (account a.0.now s.1.0.now a.1.1.0.now))
   pub statement_is : (κs : Lifetimes.Lfts 6) (a : Kinds.Dens κs statement-kinds.ps) (r : _) (s : _) →
       statement-reads.Post κs a r s ≡
-      Step (account_in a.0 a.1.0 a.1.1.0)
-      (run.statement (outputs_in a.1.1.1.0 a.1.1.1.1.0 a.1.1.1.1.1.0) (statement.number r) (statement.part_count r) (account_in s.0 s.1.0 s.1.1.0)
-      (outputs_in s.1.1.1.0 s.1.1.1.1.0 s.1.1.1.1.1.0))
+      Step (account a.0.now a.1.0.now a.1.1.0.now)
+      (run.statement (outputs a.1.1.1.0.now a.1.1.1.1.0.now a.1.1.1.1.1.0.now) (statement.number r) (statement.part_count r) (account a.0.now a.1.0.now a.1.1.0.now)
+      (outputs s.1.1.1.0.now s.1.1.1.1.0.now s.1.1.1.1.1.0.now))
   pub weights_is : (κs : Lifetimes.Lfts 3) (a : Kinds.Dens κs weights-kinds.ps) (r : _) (s : _) →
       weights-reads.Post κs a r s ≡
-      WeightsMet a.0 a.1.0 a.1.1.0.now a.1.1.1.0.now a.1.1.1.1.0.now (weights.number r) (weights.place r) s.1.1.1.1.0.now s.1.1.0.now s.1.1.1.0.now
+      WeightsMet a.0 a.1.0 a.1.1.0.now a.1.1.1.0.now a.1.1.1.1.0.now (weights.number r) (weights.place r) s.1.1.1.1.0.now a.1.1.0.now a.1.1.1.0.now
   pub open_asks_nothing : AsksNothing open-reads.Pre
   pub reading_asks_nothing : AsksNothing reading-reads.Pre
   pub withdraw_asks_nothing : AsksNothing withdraw-reads.Pre

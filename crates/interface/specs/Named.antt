@@ -4,8 +4,8 @@
 use Rattle.std.specs.Prelude.{◌≡◌}
 use contract.Lifetimes
 use borrow.Fn.Kinds
-use Rattle.account.specs.Account.{account_in}
-use Rattle.statement.specs.Parts.{outputs_in}
+use Rattle.account.specs.Account.{account}
+use Rattle.statement.specs.Parts.{outputs}
 use Rattle.account.specs.Calls.{OpenMet}
 use Rattle.history.specs.Run.{Step}
 use Rattle.history.specs.Run as run
@@ -25,14 +25,14 @@ use Rattle.ffi.proofs.arvadush_statement.Reads as statement-reads
 -- a: what the call is given; r: what it returns; s: what its references show after it
 pub record Named : Type 1 where
   pub open_is : (κs : Lifetimes.Lfts 3) (a : Kinds.Dens κs open-kinds.ps) (r : _) (s : _) →
-      open-reads.Post κs a r s ≡ OpenMet (account_in a.0 a.1.0 a.1.1.0) r (account_in s.0 s.1.0 s.1.1.0)
+      open-reads.Post κs a r s ≡ OpenMet (account a.0.now a.1.0.now a.1.1.0.now) r (account a.0.now s.1.0.now s.1.1.0.now)
   pub reading_is : (κs : Lifetimes.Lfts 3) (a : Kinds.Dens κs reading-kinds.ps) (r : _) (s : _) →
-      reading-reads.Post κs a r s ≡ Step (account_in a.0 a.1.0 a.1.1.0) (run.reading a.1.1.1.0 a.1.1.1.1.0 r (account_in s.0 s.1.0 s.1.1.0))
+      reading-reads.Post κs a r s ≡ Step (account a.0.now a.1.0.now a.1.1.0.now) (run.reading a.1.1.1.0 a.1.1.1.1.0 r (account a.0.now s.1.0.now s.1.1.0.now))
   pub withdraw_is : (κs : Lifetimes.Lfts 3) (a : Kinds.Dens κs withdraw-kinds.ps) (r : _) (s : _) →
-      withdraw-reads.Post κs a r s ≡ Step (account_in a.0 a.1.0 a.1.1.0) (run.withdraw a.1.1.1.0 r (account_in s.0 s.1.0 s.1.1.0))
+      withdraw-reads.Post κs a r s ≡ Step (account a.0.now a.1.0.now a.1.1.0.now) (run.withdraw a.1.1.1.0 r (account a.0.now s.1.0.now s.1.1.0.now))
   pub cut_is : (κs : Lifetimes.Lfts 3) (a : Kinds.Dens κs cut-kinds.ps) (r : _) (s : _) →
-      cut-reads.Post κs a r s ≡ Step (account_in a.0 a.1.0 a.1.1.0) (run.cut a.1.1.1.0 r (account_in s.0 s.1.0 s.1.1.0))
+      cut-reads.Post κs a r s ≡ Step (account a.0.now a.1.0.now a.1.1.0.now) (run.cut a.1.1.1.0 r (account a.0.now s.1.0.now a.1.1.0.now))
   pub uncut_is : (κs : Lifetimes.Lfts 3) (a : Kinds.Dens κs uncut-kinds.ps) (r : _) (s : _) →
-      uncut-reads.Post κs a r s ≡ Step (account_in a.0 a.1.0 a.1.1.0) (run.uncut a.1.1.1.0 r (account_in s.0 s.1.0 s.1.1.0))
+      uncut-reads.Post κs a r s ≡ Step (account a.0.now a.1.0.now a.1.1.0.now) (run.uncut a.1.1.1.0 r (account a.0.now s.1.0.now a.1.1.0.now))
   pub statement_is : (κs : Lifetimes.Lfts 6) (a : Kinds.Dens κs statement-kinds.ps) (r : _) (s : _) →
-      statement-reads.Post κs a r s ≡ (Step (account_in a.0 a.1.0 a.1.1.0) (run.statement (outputs_in a.1.1.1.0 a.1.1.1.1.0 a.1.1.1.1.1.0) r.number r.value (account_in s.0 s.1.0 s.1.1.0) (outputs_in s.1.1.1.0 s.1.1.1.1.0 s.1.1.1.1.1.0)) × (r.place ≡ 0))
+      statement-reads.Post κs a r s ≡ (Step (account a.0.now a.1.0.now a.1.1.0.now) (run.statement (outputs a.1.1.1.0.now a.1.1.1.1.0.now a.1.1.1.1.1.0.now) r.number r.value (account a.0.now a.1.0.now a.1.1.0.now) (outputs s.1.1.1.0.now s.1.1.1.1.0.now s.1.1.1.1.1.0.now)) × (r.place ≡ 0))

@@ -1,11 +1,13 @@
 // The text of a statement, of a refusal and of an account, laid out in a lent buffer (Case file, the program's output).
+#![tactic(auto)]
+
 mod put;
 
 ghost use Rattle.std.specs.Prelude.{◌≡◌, false, List, ℕ, ◌+◌, ◌*◌, ◌<◌, ◌≤◌, ◌^◌, ltb, length, get_or};
 ghost use Rattle.profile.specs.Limits.{span_most};
 ghost use Rattle.common.specs.Below.{somewhere};
-ghost use Rattle.account.specs.Account.{energy_most, account_in};
-ghost use Rattle.statement.specs.Parts.{outputs, outputs_in};
+ghost use Rattle.account.specs.Account.{energy_most, account};
+ghost use Rattle.statement.specs.Parts.{outputs};
 ghost use Rattle.statement.specs.Shares.{total};
 ghost use Rattle.statement.specs.Call.{number, part_count};
 ghost use Rattle.layout.specs.Text.{LaidOut, TextMet, statement_text, refusal_text, line_of, part_lines, parts_text};
@@ -29,7 +31,7 @@ pub fn refusal_text(number: u8, place: usize, out: &mut [u8]) -> usize
 
 // The text of a statement of so many parts, at the start of out; nothing where no statement can be like that.
 pub fn statement_text(from: &[u16], to: &[u16], wh: &[u64], parts: usize, out: &mut [u8]) -> usize
-    ensures { TextMet (statement_text (outputs_in from.entry to.entry wh.entry) parts) out.old result out.new (outputs_in from.entry to.entry wh.entry) (outputs_in from.exit to.exit wh.exit) }
+    ensures { TextMet (statement_text (outputs from.now to.now wh.now) parts) out.old result out.new (outputs from.now to.now wh.now) (outputs from.now to.now wh.now) }
 {
     if parts == 0 {
         return 0;
@@ -55,8 +57,8 @@ pub fn statement_text(from: &[u16], to: &[u16], wh: &[u64], parts: usize, out: &
 // The words, lines and sum of a statement, at the start of out.
 fn parts_text(from: &[u16], to: &[u16], wh: &[u64], parts: usize, sum: u64, out: &mut [u8]) -> usize
     requires parts_le_span_most { (parts ≤ span_most) × (parts ≤ length from.now) × (parts ≤ length to.now) × (parts ≤ length wh.now) }
-    requires sum_value { sum ≡ total (outputs_in from to wh) parts }
-    ensures { LaidOut 0 (parts_text (outputs_in from.entry to.entry wh.entry) parts) out.old result out.new }
+    requires sum_value { sum ≡ total (outputs from.now to.now wh.now) parts }
+    ensures { LaidOut 0 (parts_text (outputs from.now to.now wh.now) parts) out.old result out.new }
 {
     let at = put::word(out, 0, b"parts ");
     let at = put::number(out, at, parts as u64, b'\n');
@@ -109,7 +111,7 @@ fn line(from: u16, to: u16, wh: u64, out: &mut [u8], at: usize) -> usize
 fn lines(from: &[u16], to: &[u16], wh: &[u64], parts: usize, out: &mut [u8], at: usize) -> usize
     requires parts_le_span_most { (parts ≤ span_most) × (parts ≤ length from.now) × (parts ≤ length to.now) × (parts ≤ length wh.now) }
     requires at_bound { at ≤ 1000 }
-    ensures laid_out { LaidOut at (part_lines (outputs_in from.entry to.entry wh.entry) parts) out.old result out.new }
+    ensures laid_out { LaidOut at (part_lines (outputs from.now to.now wh.now) parts) out.old result out.new }
     ensures upper_bound { result ≤ at + 63 * parts }
 {
     let mut next = at;
@@ -123,7 +125,7 @@ fn lines(from: &[u16], to: &[u16], wh: &[u64], parts: usize, out: &mut [u8], at:
 
 // The statement of an account or its refusal, at the start of out.
 pub fn account_text(weights: &[u32], marks: &[u8], counts: &[u64], out: &mut [u8]) -> usize
-    ensures text_met { TextMet (account_text (account_in weights.entry marks.entry counts.entry)) out.old result out.new (account_in weights.entry marks.entry counts.entry) (account_in weights.exit marks.exit counts.exit) }
+    ensures text_met { TextMet (account_text (account weights.now marks.now counts.now)) out.old result out.new (account weights.now marks.now counts.now) (account weights.now marks.now counts.now) }
     ensures text_most_value { TEXT_MOST ≡ text_most }
 {
     if Profile::SPAN_MOST < weights.len() {
@@ -146,7 +148,7 @@ fn with_outputs(
     out: &mut [u8],
 ) -> usize
     requires { (length weights.now ≤ length from.old) × (length weights.now ≤ length to.old) × (length weights.now ≤ length wh.old) }
-    ensures { LaidOut 0 (account_text (account_in weights.entry marks.entry counts.entry)) out.old result out.new }
+    ensures { LaidOut 0 (account_text (account weights.now marks.now counts.now)) out.old result out.new }
 {
     let n = weights.len();
     let answer = statement::statement(
@@ -162,7 +164,7 @@ fn with_outputs(
 
 // What a statement call answered and wrote, as text at the start of out.
 fn answered(answer: StatementAnswer, from: &[u16], to: &[u16], wh: &[u64], out: &mut [u8]) -> usize
-    ensures { LaidOut 0 (answered_text (number answer) (part_count answer) (outputs_in from.entry to.entry wh.entry)) out.old result out.new }
+    ensures { LaidOut 0 (answered_text (number answer) (part_count answer) (outputs from.now to.now wh.now)) out.old result out.new }
 {
     match answer {
         StatementAnswer::Parts(parts) => statement_text(from, to, wh, parts, out),

@@ -1,8 +1,10 @@
 // The page for the post (K4): the statement of an account in lines of 40 characters, laid out in a lent slice.
+#![tactic(auto)]
+
 ghost use Rattle.std.specs.Prelude.{◌≡◌, false, ◌+◌, ◌≤◌, length};
 ghost use Rattle.std.proofs.lemmas.List.Edits.{sets};
-ghost use Rattle.account.specs.Account.{account_in};
-ghost use Rattle.statement.specs.Parts.{outputs_in};
+ghost use Rattle.account.specs.Account.{account};
+ghost use Rattle.statement.specs.Parts.{outputs};
 ghost use Rattle.statement.specs.Call.{unfit_outputs};
 ghost use Rattle.layout.specs.Text.{decimal};
 ghost use Rattle.page.specs.Page.{aligned, page_line, page_text, page_length};
@@ -14,7 +16,7 @@ use profile::Profile;
 use statement::StatementAnswer;
 
 // What a page answers: the number of its bytes, or a row of the table.
-#[derive(Drop)]
+#[derive(Clone, Copy)]
 pub enum PageAnswer {
     Bytes(usize),
     Refused(u8),
@@ -22,7 +24,7 @@ pub enum PageAnswer {
 
 // Lays out the page of an account, and returns the number of its bytes. Row 11 clears the page, the others leave it.
 pub fn page(weights: &[u32], marks: &[u8], counts: &[u64], page: &mut [u8]) -> PageAnswer
-    ensures { PageMet (account_in weights.entry marks.entry counts.entry) page.old (number result) (size result) (account_in weights.exit marks.exit counts.exit) page.new }
+    ensures { PageMet (account weights.now marks.now counts.now) page.old (number result) (size result) (account weights.now marks.now counts.now) page.new }
 {
     let n = weights.len();
     if Profile::SPAN_MOST < n {
@@ -52,8 +54,8 @@ fn with_outputs(
     wh: &mut [u64],
     page: &mut [u8],
 ) -> PageAnswer
-    requires { unfit_outputs (length weights.now) (outputs_in from to wh) ≡ false }
-    ensures { PageMet (account_in weights.entry marks.entry counts.entry) page.old (number result) (size result) (account_in weights.exit marks.exit counts.exit) page.new }
+    requires { unfit_outputs (length weights.now) (outputs from.old to.old wh.old) ≡ false }
+    ensures { PageMet (account weights.now marks.now counts.now) page.old (number result) (size result) (account weights.now marks.now counts.now) page.new }
 {
     match statement::statement(weights, marks, counts, from, to, wh) {
         StatementAnswer::Parts(parts) => laid_out(from, to, wh, parts, page),
@@ -68,8 +70,8 @@ fn with_outputs(
 
 // The page of a statement of so many parts, if the lent page has the length for them.
 fn laid_out(from: &[u16], to: &[u16], wh: &[u64], parts: usize, page: &mut [u8]) -> PageAnswer
-    requires { Printable (outputs_in from to wh) parts }
-    ensures { LengthMet parts (page_text (outputs_in from.entry to.entry wh.entry) parts) page.old (number result) (size result) page.new }
+    requires { Printable (outputs from.now to.now wh.now) parts }
+    ensures { LengthMet parts (page_text (outputs from.now to.now wh.now) parts) page.old (number result) (size result) page.new }
 {
     let bytes = 41 * (parts + 1);
     if page.len() != bytes {
@@ -81,11 +83,11 @@ fn laid_out(from: &[u16], to: &[u16], wh: &[u64], parts: usize, page: &mut [u8])
 
 // The heading and a line for each part.
 fn lines(from: &[u16], to: &[u16], wh: &[u64], parts: usize, page: &mut [u8])
-    requires printable { Printable (outputs_in from to wh) parts }
+    requires printable { Printable (outputs from.now to.now wh.now) parts }
     requires page_len { length page.old ≡ page_length parts }
-    ensures { page.new ≡ page_text (outputs_in from.entry to.entry wh.entry) parts }
+    ensures { page.new ≡ page_text (outputs from.now to.now wh.now) parts }
 {
-    bytes::copy(b"  from    to            Wh           sum\n", page);
+    page[..41].copy_from_slice(b"  from    to            Wh           sum\n");
     let mut sum: u64 = 0;
     let mut i = 0;
     while i < parts {

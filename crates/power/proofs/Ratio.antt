@@ -1,5 +1,5 @@
 -- What the enclosing says where the exact power is the ratio itself, at C = 10^7 (Profile value). Assumes nothing.
-use mathlib.Core.Path.{◌≡◌, sym, subst₂}
+use mathlib.Core.Path.{sym, subst₂}
 use mathlib.Core.Logic.{◌↔◌}
 use Prim.Native.Nat.{ℕ, ◌*◌, ◌^◌, ◌≤◌, ◌<◌}
 use native.Mathlib.Nat.{pow-le-pow_left}

@@ -12,7 +12,7 @@ const WHOLE: u64 = 1 << 24;
 const TEN_MILLION: u64 = 10_000_000;
 
 // The two bounds of a power. (Beside `bounds` its name would clash.)
-#[derive(Drop)]
+#[derive(Clone, Copy)]
 pub struct Bounds {
     pub low: u64,
     pub high: u64,

@@ -1,4 +1,6 @@
 // Powers of a ratio at most one, rounded down and up, in units of 2^-30 (Profile value).
+#![tactic(auto)]
+
 mod by_roots;
 mod rounded;
 

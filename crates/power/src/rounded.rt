@@ -6,7 +6,7 @@ ghost use Rattle.power.specs.Power.{one};
 // The paper's one, 2^30.
 pub const ONE: u64 = 1 << 30;
 
-#[derive(Drop)]
+#[derive(Clone, Copy)]
 pub(crate) enum Rounding {
     Down,
     Up,

@@ -116,4 +116,4 @@ widened w' f t = ap (λ (x : ℤ). to_z w' (of_z w' x)) (to_z-of_z f) ∙ to_z-o
 
 -- a call's result, as the record of the call has its range
 pub kept : (z : ℤ) → mag z < 2 ^ 63 → to_z w64 (of_z w64 z) ≡ z
-kept z h = to_z-of_z (record { sfits = h })
+kept z h = to_z-of_z {w = w64} (record { sfits = h })

@@ -10,21 +10,21 @@ use super::{Profile, table};
 use power::ONE;
 
 // The value, low and high.
-#[derive(Drop)]
+#[derive(Clone, Copy)]
 pub(crate) struct Values {
     pub(crate) low: i64,
     pub(crate) high: i64,
 }
 
 // The share s, low and high.
-#[derive(Drop)]
+#[derive(Clone, Copy)]
 struct Shares {
     low: u64,
     high: u64,
 }
 
 // N / M, and whether it is that of the cold side.
-#[derive(Drop)]
+#[derive(Clone, Copy)]
 struct Ratio {
     cold: bool,
     n: u32,

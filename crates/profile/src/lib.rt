@@ -1,4 +1,6 @@
 // Profiles, profile value and day weight (Profiles, Profile value).
+#![tactic(auto)]
+
 mod curve;
 mod table;
 
@@ -7,7 +9,7 @@ ghost use Rattle.profile.specs.Limits.{in_range};
 ghost use Rattle.profile.specs.Answers.{ByNumberMet, LimitsMet, WeightLimitsMet, SpanLimitsMet, value_answered, value_placed, low_given, high_given, ValueMet, weight_answered, weight_placed, weight_given, WeightMet};
 
 // One profile, a standard load profile SigLinDe: coefficients in ten-millionths, weekday factors in ten-thousandths, Monday first.
-#[derive(Drop)]
+#[derive(Clone, Copy)]
 pub struct Profile {
     pub a: u32,
     pub b: i32,
@@ -21,14 +23,14 @@ pub struct Profile {
 }
 
 // A profile by number, and beside it the refusal: 0, or 1 with a profile of zeros.
-#[derive(Drop)]
+#[derive(Clone, Copy)]
 pub struct Numbered {
     pub refusal: u8,
     pub profile: Profile,
 }
 
 // The profile value (h value) in units of 10^-9, or the row that declines it: 1, or 4 with its index.
-#[derive(Drop)]
+#[derive(Clone, Copy)]
 pub enum ValueAnswer {
     Value { low: i64, high: i64 },
     NoProfile,
@@ -36,7 +38,7 @@ pub enum ValueAnswer {
 }
 
 // A day's weight (h value times weekday factor) in millionths, or the row that declines it: 1, 2, or 4 with its index.
-#[derive(Drop)]
+#[derive(Clone, Copy)]
 pub enum WeightAnswer {
     Weight(u32),
     NoProfile,
@@ -77,9 +79,9 @@ impl Profile {
     // The profile of a number, 0 to 9.
     pub fn by_number(number: u8) -> Numbered
         ensures by_number_met { ByNumberMet number result }
-        ensures* fact { do ⌜ LimitsMet (← (⟦Profile::COLDEST⟧).entry) (← (⟦Profile::WARMEST⟧).entry) (← (⟦Profile::COUNT⟧).entry) ⌝ }
-        ensures* fact_2 { do ⌜ WeightLimitsMet (← (⟦Profile::WEIGHT_LEAST⟧).entry) (← (⟦Profile::WEIGHT_MOST⟧).entry) ⌝ }
-        ensures* fact_3 { do ⌜ SpanLimitsMet (← (⟦Profile::SPAN_LEAST⟧).entry) (← (⟦Profile::SPAN_MOST⟧).entry) ⌝ }
+        ensures limits_met { LimitsMet Profile.COLDEST Profile.WARMEST Profile.COUNT }
+        ensures weight_limits_met { WeightLimitsMet Profile.WEIGHT_LEAST Profile.WEIGHT_MOST }
+        ensures span_limits_met { SpanLimitsMet Profile.SPAN_LEAST Profile.SPAN_MOST }
     {
         if Profile::COUNT <= number {
             return Numbered {

@@ -1,6 +1,8 @@
 // The text of a case file: its statement or its refusal (Case file, the program's output).
+#![tactic(auto)]
+
 ghost use Rattle.std.specs.Prelude.{◌≤◌, ◌+◌, length, take, ◌≡◌};
-ghost use Rattle.account.specs.Account.{account, account_in};
+ghost use Rattle.account.specs.Account.{account};
 ghost use Rattle.casefile.specs.Length.{bytes_read};
 ghost use Rattle.layout.specs.Text.{LaidOut};
 ghost use Rattle.layout.specs.Accounts.{account_text};
@@ -20,7 +22,7 @@ pub fn case_text(
     counts: &mut [u64],
     out: &mut [u8],
 ) -> usize
-    ensures case_text_met { CaseTextMet file.now (account_in weights.entry marks.entry counts.entry) out.old result (account_in weights.exit marks.exit counts.exit) out.new file.now }
+    ensures case_text_met { CaseTextMet file.now (account weights.old marks.old counts.old) out.old result (account weights.new marks.new counts.new) out.new file.now }
     ensures bytes_read_value { BYTES_READ ≡ bytes_read }
 {
     let answer = read_case(file, weights, marks, counts);

@@ -2,7 +2,6 @@
 -- load over base sum. For a list of points, each with supplier number 0 to 63 and base amount, give every point its whole Wh by the statement's running
 -- rule in list order, then each supplier's total, then the network's."
 use Rattle.std.specs.Prelude.{ℕ, zero, suc, ◌+◌, ◌-◌, cond, List, eqb, length, get_or, take}
-use Rattle.std.specs.Borrow.{Bor}
 use Rattle.common.specs.Lists.{list_of, sum_of}
 use Rattle.statement.specs.Split.{rounded_share}
 
@@ -49,10 +48,3 @@ spread_of load p = outputs (amounts_of load p.bases) (totals_of p.suppliers (amo
 -- "then the network's"
 abbrev pub network_of : Outputs → ℕ
 network_of o = sum_of o.totals
-
--- what two lent slices hold, at the start (`entry`) or the end (`exit`) of a call
-abbrev pub points_in : Bor (List ℕ) → Bor (List ℕ) → Points
-points_in s b = points s.now b.now
-
-abbrev pub spread_in : Bor (List ℕ) → Bor (List ℕ) → Outputs
-spread_in a t = outputs a.now t.now

@@ -1,14 +1,16 @@
 // Spreads the residual load of a network over its points (K5).
+#![tactic(auto)]
+
 ghost use Rattle.std.specs.Prelude.{◌≡◌};
 ghost use Rattle.statement.specs.Split.{rounded_share};
-ghost use Rattle.residual.specs.Spread.{points_in, spread_in, spread_of};
+ghost use Rattle.residual.specs.Spread.{points, outputs, spread_of};
 ghost use Rattle.residual.specs.Call.{bad_list, number, total, SpreadMet};
 ghost use Rattle.residual.specs.Progress.{Cleared, limited_sum, Shareable, Spreadable};
 
 use common::clear_u64;
 
 // What a spread answers: the network's total, or a row of the table.
-#[derive(Drop)]
+#[derive(Clone, Copy)]
 pub enum SpreadAnswer {
     Total(u64),
     Unfit,
@@ -25,7 +27,7 @@ pub fn spread(
     amounts: &mut [u64],
     totals: &mut [u64],
 ) -> SpreadAnswer
-    ensures { SpreadMet load (points_in suppliers.entry bases.entry) (spread_in amounts.entry totals.entry) (number result) (total result) (points_in suppliers.exit bases.exit) (spread_in amounts.exit totals.exit) }
+    ensures { SpreadMet load (points suppliers.now bases.now) (outputs amounts.old totals.old) (number result) (total result) (points suppliers.now bases.now) (outputs amounts.new totals.new) }
 {
     let n = bases.len();
     if suppliers.len() != n {
@@ -50,8 +52,8 @@ fn into_cleared(
     amounts: &mut [u64],
     totals: &mut [u64],
 ) -> SpreadAnswer
-    requires { Cleared (points_in suppliers bases) (spread_in amounts totals) }
-    ensures { SpreadMet load (points_in suppliers.entry bases.entry) (spread_in amounts.entry totals.entry) (number result) (total result) (points_in suppliers.exit bases.exit) (spread_in amounts.exit totals.exit) }
+    requires { Cleared (points suppliers.now bases.now) (outputs amounts.old totals.old) }
+    ensures { SpreadMet load (points suppliers.now bases.now) (outputs amounts.old totals.old) (number result) (total result) (points suppliers.now bases.now) (outputs amounts.new totals.new) }
 {
     if bad_list(suppliers) {
         return SpreadAnswer::BadList;
@@ -128,9 +130,9 @@ fn fill(
     amounts: &mut [u64],
     totals: &mut [u64],
 )
-    requires spreadable { Spreadable load sum (points_in suppliers bases) }
-    requires cleared { Cleared (points_in suppliers bases) (spread_in amounts totals) }
-    ensures { spread_in amounts.exit totals.exit ≡ spread_of load (points_in suppliers.entry bases.entry) }
+    requires spreadable { Spreadable load sum (points suppliers.now bases.now) }
+    requires cleared { Cleared (points suppliers.now bases.now) (outputs amounts.old totals.old) }
+    ensures { outputs amounts.new totals.new ≡ spread_of load (points suppliers.now bases.now) }
 {
     let mut part: u64 = 0;
     let mut before: u64 = 0;

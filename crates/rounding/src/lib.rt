@@ -1,4 +1,6 @@
 // Rounding to the nearest whole number, an exact half going up (the paper's first paragraph), on 64-bit numbers.
+#![tactic(auto)]
+
 ghost use Rattle.std.specs.Prelude.{◌≡◌};
 ghost use Rattle.rounding.specs.Nearest.{nearest};
 

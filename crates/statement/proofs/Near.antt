@@ -12,7 +12,7 @@ use Rattle.rounding.specs.Nearest.{IsNearest}
 use Rattle.rounding.proofs.Laws.{nearest_is}
 use Rattle.account.specs.Stands.{Readings}
 use Rattle.statement.specs.Split.{weight_sum, rounded_share, between, has}
-use Rattle.statement.specs.Shares.{Adjacent, NearTo, NearShare, Shared}
+use Rattle.statement.specs.Shares.{Adjacent, NearTo, NearShare}
 use Rattle.statement.specs.Facts.{Valid, DownOrUp, NearForAll}
 use Rattle.statement.proofs.Order.{LiesBetween, earlier_is, later_is}
 use Rattle.statement.proofs.Sums.{sum_splits, sum_positive}

@@ -1,7 +1,6 @@
 -- The parts of a statement (Account and its calls, "Statement"): "Parts run between successive marked boundaries from the first
 -- reading to the last; cuts outside wait. The Wh of a part is what its end has less what its start has."
 use Rattle.std.specs.Prelude.{ℕ, zero, suc, ◌-◌, Bool, cond, ◌&&◌, ◌||◌, List, [], ◌∷◌, ◌++◌, map, leb, ltb, length}
-use Rattle.std.specs.Borrow.{Bor}
 use Rattle.common.specs.Rows.{filled}
 use Rattle.common.specs.Below.{last}
 use Rattle.account.specs.Stands.{Stands, first_reading, last_reading}
@@ -44,12 +43,9 @@ pub record Outputs : Type 0 where
   pub to : List ℕ
   pub wh : List ℕ
 
+-- what three lent slices hold, at the start (`old`, or `now` where they are only read) or the end (`new`) of a call
 abbrev pub outputs : List ℕ → List ℕ → List ℕ → Outputs
 outputs f t e = record { from = f; to = t; wh = e }
-
--- what three lent slices hold, at the start (`entry`) or the end (`exit`) of a call
-abbrev pub outputs_in : Bor (List ℕ) → Bor (List ℕ) → Bor (List ℕ) → Outputs
-outputs_in f t e = outputs f.now t.now e.now
 
 abbrev pub written : ℕ → List Part → Outputs
 written n ps =

@@ -1,10 +1,12 @@
 // The statement (Account and its calls, "Statement"): each weight is added at most twice, for Z and for Zk.
+#![tactic(auto)]
+
 mod readings;
 
 ghost use Rattle.std.specs.Prelude.{◌≡◌, ◌+◌};
-ghost use Rattle.account.specs.Account.{account_in, shown};
+ghost use Rattle.account.specs.Account.{account, shown};
 ghost use Rattle.statement.specs.Split.{weight_sum, rounded_share};
-ghost use Rattle.statement.specs.Parts.{outputs_in};
+ghost use Rattle.statement.specs.Parts.{outputs};
 ghost use Rattle.statement.specs.Call.{number, part_count, StatementMet};
 ghost use Rattle.statement.specs.Progress.{Summable, Splittable, Addable, with_part, next_part, Interval, Written, Fillable, Filled};
 
@@ -12,7 +14,7 @@ use common::{clear_u16, clear_u64};
 use readings::{count_readings, next_reading};
 
 // What a statement answers: the number of its parts, or a row of the table.
-#[derive(Drop)]
+#[derive(Clone, Copy)]
 pub enum StatementAnswer {
     Parts(usize),
     Unfit,
@@ -21,7 +23,7 @@ pub enum StatementAnswer {
 }
 
 // How far a statement is written: so many `parts` are, and the next starts at the boundary `start`, which has `count`.
-#[derive(Drop)]
+#[derive(Clone, Copy)]
 struct Progress {
     start: usize,
     count: u64,
@@ -37,7 +39,7 @@ pub fn statement(
     to: &mut [u16],
     wh: &mut [u64],
 ) -> StatementAnswer
-    ensures { StatementMet (account_in weights.entry marks.entry counts.entry) (outputs_in from.entry to.entry wh.entry) (number result) (part_count result) (account_in weights.exit marks.exit counts.exit) (outputs_in from.exit to.exit wh.exit) }
+    ensures { StatementMet (account weights.now marks.now counts.now) (outputs from.old to.old wh.old) (number result) (part_count result) (account weights.now marks.now counts.now) (outputs from.new to.new wh.new) }
 {
     let n = weights.len();
     if from.len() != n {
@@ -105,8 +107,8 @@ fn add_part(
     end: usize,
     count: u64,
 ) -> Progress
-    requires { Addable (outputs_in from to wh) done end count }
-    ensures { (result ≡ next_part done end count) × (outputs_in from.exit to.exit wh.exit ≡ with_part (outputs_in from.entry to.entry wh.entry) done end count) }
+    requires { Addable (outputs from.old to.old wh.old) done end count }
+    ensures { (result ≡ next_part done end count) × (outputs from.new to.new wh.new ≡ with_part (outputs from.old to.old wh.old) done end count) }
 {
     let at = done.parts;
     from[at] = done.start as u16;
@@ -130,8 +132,8 @@ fn fill_interval(
     wh: &mut [u64],
     done: Progress,
 ) -> Progress
-    requires { Interval (account_in weights marks counts) q (outputs_in from to wh) done }
-    ensures { Written weights.now (shown (account_in weights.entry marks.entry counts.entry)) (q + 1) (outputs_in from.exit to.exit wh.exit) result }
+    requires { Interval (account weights.now marks.now counts.now) q (outputs from.old to.old wh.old) done }
+    ensures { Written weights.now (shown (account weights.now marks.now counts.now)) (q + 1) (outputs from.new to.new wh.new) result }
 {
     let p = done.start;
     let low = done.count;
@@ -161,8 +163,8 @@ fn fill(
     to: &mut [u16],
     wh: &mut [u64],
 ) -> usize
-    requires { Fillable (account_in weights marks counts) (outputs_in from to wh) }
-    ensures { Filled (account_in weights.entry marks.entry counts.entry) (outputs_in from.exit to.exit wh.exit) result }
+    requires { Fillable (account weights.now marks.now counts.now) (outputs from.old to.old wh.old) }
+    ensures { Filled (account weights.now marks.now counts.now) (outputs from.new to.new wh.new) result }
 {
     let n = weights.len();
     let first = next_reading(marks, 0);

@@ -1,4 +1,6 @@
 // Allocation temperatures, the choice of the series of means, and the weights of a span (Temperature of a day, K1).
+#![tactic(auto)]
+
 mod days;
 mod means;
 
@@ -12,14 +14,14 @@ ghost use Rattle.weights.specs.Weights as spans;
 use common::clear_u32;
 use profile::Profile;
 
-#[derive(Drop)]
+#[derive(Clone, Copy)]
 pub enum TemperatureAnswer {
     Temperature(i16),
     // Which mean, 0 to 3.
     OutOfRange(u8),
 }
 
-#[derive(Drop)]
+#[derive(Clone, Copy)]
 pub enum WeightsAnswer {
     Done,
     // Too few or too many means, or an output or a calendar of another length.

@@ -1,16 +1,17 @@
-//! The header, the crate ffi and src/proved.rs declare the calls for C alike; no compiler compares these three.
+//! The header, the crate ffi_c (with the structs of the crate ffi) and src/proved.rs declare the calls for C alike; no compiler compares these three.
 
 use std::collections::BTreeSet;
 
-/// The three declarations, the type names of the third, and the crates with the numbers of the header's constants.
-const FILES: [&str; 7] = [
+/// The three declarations, the type names of the third, the crates with the numbers of the header's constants, and the structs of the second.
+const FILES: [&str; 8] = [
     "include/arvadush.h",
-    "crates/ffi/src/lib.rt",
+    "crates/ffi_c/src/lib.rt",
     "reference/compare/src/proved.rs",
     "reference/model/src/lib.rs",
     "crates/profile/src/lib.rt",
     "crates/report/src/lib.rt",
     "crates/layout/src/lib.rt",
+    "crates/ffi/src/lib.rt",
 ];
 
 /// The types of C as names of Rust's; another type of the header is a difference.
@@ -19,7 +20,7 @@ const C_TYPES: &str = "type size_t = usize; type uint8_t = u8; type uint16_t = u
 
 type Words<'a> = &'a [&'a str];
 
-fn texts() -> [String; 7] {
+fn texts() -> [String; 8] {
     let read = |file| std::fs::read_to_string(format!("{}/../../{file}", env!("CARGO_MANIFEST_DIR")));
     FILES.map(|file| read(file).unwrap_or_else(|error| panic!("{file}: {error}")))
 }
@@ -118,7 +119,7 @@ fn of_rust(text: Words) -> BTreeSet<String> {
         (head, parted(rest, "}").0)
     });
     let declared = after(text, "extern \"C\" {").into_iter().flat_map(|block| after(parted(block, "}").0, "fn"));
-    let calls = after(text, "#[no_mangle] extern \"C\" fn").into_iter().chain(declared).map(|call| {
+    let calls = after(text, "#[unsafe(no_mangle)] extern \"C\" fn").into_iter().chain(declared).map(|call| {
         let (parameters, rest) = parted(parted(call, "(").1, ")");
         let returned = match rest {
             ["-", ">", _, "<", _, ">", ..] => &rest[2..6],
@@ -141,9 +142,10 @@ fn number(text: &str, constant: &str) -> u64 {
     after(&words(text), &format!("const {constant}: usize ="))[0][0].replace('_', "").parse().unwrap()
 }
 
-fn differences([header, ffi, proved, model, profile, report, layout]: &[String; 7]) -> Vec<String> {
+fn differences([header, exports, proved, model, profile, report, layout, structs]: &[String; 8]) -> Vec<String> {
     let (header, rust) = (words(header), words(proved));
-    let calls = [of_c(&meant(&header, &words(C_TYPES))), of_rust(&words(ffi)), of_rust(&meant(&rust, &words(model)))];
+    let ffi = [words(structs), words(exports)].concat();
+    let calls = [of_c(&meant(&header, &words(C_TYPES))), of_rust(&ffi), of_rust(&meant(&rust, &words(model)))];
     let listed = after(&header, "enum {").into_iter().flat_map(|rest| parted(rest, "}").0.split(|word| *word == ","));
     let listed = listed.filter(|constant| !constant.is_empty()).map(|constant| constant.join(" ")).collect();
     let (days, file, text) = (number(profile, "SPAN_MOST"), number(report, "BYTES_READ"), number(layout, "TEXT_MOST"));
@@ -201,8 +203,8 @@ fn every_fault_of_the_header_is_found() {
 #[test]
 fn faults_of_the_other_files_are_found() {
     let faults = [
-        (1, "#[repr(C)]", ""),
-        (1, "#[no_mangle]", ""),
+        (7, "#[repr(C)]", ""),
+        (1, "#[unsafe(no_mangle)]", ""),
         (1, "&mut [", "&["),
         (2, "#[repr(C)]", ""),
         (2, "*const", "*mut"),

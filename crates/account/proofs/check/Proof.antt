@@ -3,7 +3,6 @@ use Prim.Native.Nat.{ℕ}
 use mathlib.Core.Path.{◌≡◌, refl, sym, ◌∙◌}
 use mathlib.Core.Bool.{true, false}
 use native.Mathlib.Numerals.{add-one}
-use borrow.Author.Tests.{not-true, not-false}
 use Rattle.account.specs.Account.{Account, account, days, unfit, good_weights, energy_most}
 use Rattle.account.specs.Refusals.{account_rows}
 use Rattle.account.specs.Calls.{CheckMet}
@@ -21,57 +20,57 @@ tells : (a : Account) (n : ℕ) → account_rows a 0 ≡ n → CheckMet a n a ×
 tells a n e = (record { answers = sym e; stays = refl }, refl)
 
 -- what is known after each test that was not taken
-fits : (c : tie.Else1) → unfit (lent c.before.before.before.before.before) ≡ false
-fits c = sym c.before.unfit.ensures ∙ c.if1.false
+fits : (c : tie.Else-unfit) → unfit (lent c.before.before.before.before.before) ≡ false
+fits c = sym c.before.unfit.ensures ∙ c.if-unfit.false
 
-weights_good : (c : tie.Else2) → good_weights (lent c.before.before.before.before.before.before.before).weights ≡ true
-weights_good c = sym c.before.good-weights.ensures.gives ∙ not-false _ c.if2.false
+weights_good : (c : tie.Else-not-good_weights) → good_weights (lent c.before.before.before.before.before.before.before).weights ≡ true
+weights_good c = sym c.before.good_weights.ensures.gives ∙ c.if-not-good_weights.false
 
-boundaries_good : (c : tie.Else3) → good_boundaries (lent c.before.before.before.before.before.before.before.before.before) ≡ true
-boundaries_good c = sym c.before.good-boundaries.ensures ∙ not-false _ c.if3.false
+boundaries_good : (c : tie.Else-not-good_boundaries) → good_boundaries (lent c.before.before.before.before.before.before.before.before.before) ≡ true
+boundaries_good c = sym c.before.good_boundaries.ensures ∙ c.if-not-good_boundaries.false
 
 unfit-requires : tie.Need-unfit-requires
 unfit-requires c κs = tt
 
-returns : tie.Need-returns
-returns c = tells _ _ (unfit_rows (lent c.before.before.before.before.before) 0 (sym c.before.unfit.ensures ∙ c.if1.true))
+returns : tie.Need-returns-then-unfit
+returns c = tells _ _ (unfit_rows (lent c.before.before.before.before.before) 0 (sym c.before.unfit.ensures ∙ c.if-unfit.true))
 
-good-weights-requires : tie.Need-good-weights-requires
+good-weights-requires : tie.Need-good_weights-requires
 good-weights-requires c κs = tt
 
-returns_2 : tie.Need-returns-2
+returns_2 : tie.Need-returns-then-not-good_weights
 returns_2 c =
     let a = lent c.before.before.before.before.before.before.before in
-    tells a _ (unsound_rows a 0 (fits c.before.before) (weights_unsound a (sym c.before.good-weights.ensures.gives ∙ not-true _ c.if2.true)))
+    tells a _ (unsound_rows a 0 (fits c.before.before) (weights_unsound a (sym c.before.good_weights.ensures.gives ∙ c.if-not-good_weights.true)))
 
-good-boundaries-requires : tie.Need-good-boundaries-requires
+good-boundaries-requires : tie.Need-good_boundaries-requires
 good-boundaries-requires c κs = fit _ (fits c.before.before)
 
-returns-3 : tie.Need-returns-3
+returns-3 : tie.Need-returns-then-not-good_boundaries
 returns-3 c =
     let a = lent c.before.before.before.before.before.before.before.before.before in
     tells a _
     (unsound_rows a 0 (fits c.before.before.before.before)
-    (boundaries_unsound a (weights_good c.before.before) (sym c.before.good-boundaries.ensures ∙ not-true _ c.if3.true)))
+    (boundaries_unsound a (weights_good c.before.before) (sym c.before.good_boundaries.ensures ∙ c.if-not-good_boundaries.true)))
 
-last-less-first-requires : tie.Need-last-less-first-requires
+last-less-first-requires : tie.Need-last_less_first-requires
 last-less-first-requires c κs = tt
 
-returns-4 : tie.Need-returns-4
+returns-4 : tie.Need-returns-then-last_less_first-gt-ENERGY_MOST
 returns-4 c =
     let a = lent c.before.before.before.before.before.before.before.before.before.before.before in
     let fitting = fits c.before.before.before.before.before.before in
     tells a _
     (unsound_rows a 0 fitting
-    (energy_unsound a _ (c.before.last_less_first_lem.ensures (days a) ((fit a fitting).marks ∙ add-one (days a))) (weights_good c.before.before.before.before) (boundaries_good c.before.before) c.if4.true))
+    (energy_unsound a _ (c.before.last_less_first.ensures (days a) ((fit a fitting).marks ∙ add-one (days a))) (weights_good c.before.before.before.before) (boundaries_good c.before.before) c.if-last_less_first-gt-ENERGY_MOST.true))
 
-returns-5 : tie.Need-returns-5
+returns-5 : tie.Need-returns
 returns-5 c =
     let a = lent c.before.before.before.before.before.before.before.before.before.before.before in
     let fitting = fits c.before.before.before.before.before.before in
     tells a _
     (sound_rows a 0 fitting
-    (all_sound a _ (c.before.last_less_first_lem.ensures (days a) ((fit a fitting).marks ∙ add-one (days a))) (weights_good c.before.before.before.before) (boundaries_good c.before.before) c.if4.false))
+    (all_sound a _ (c.before.last_less_first.ensures (days a) ((fit a fitting).marks ∙ add-one (days a))) (weights_good c.before.before.before.before) (boundaries_good c.before.before) c.if-last_less_first-gt-ENERGY_MOST.false))
 
 pub check_spec : {M : Type 1} → statement M
 check_spec =

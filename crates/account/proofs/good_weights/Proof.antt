@@ -33,39 +33,39 @@ all : (w : List ℕ) (d : ℕ) → d ≡ length w → everywhere (λ j. good_wei
 unfolding good_weights
 all w d e h = record { gives = sym (subst (λ (m : ℕ). everywhere (λ j. good_weight (get_or w j 0)) m ≡ true) e h); stays = refl }
 
-abbrev invariant-loop : tie.invariant-loop
+abbrev invariant-loop : tie.invariant-loop-d
 invariant-loop weights d₀ d = (d ≤ length weights) × (everywhere (λ j. good_weight (get_or weights j 0)) d ≡ true)
 
-abbrev decreases-loop : tie.decreases-loop
+abbrev decreases-loop : tie.decreases-loop-d
 decreases-loop weights d₀ d = length weights - d
 
-loop-holds : tie.Need-loop-init invariant-loop decreases-loop
+loop-holds : tie.Need-loop-d-init invariant-loop decreases-loop
 loop-holds c = (omega arith, every_zero _)
 
-mul-x : tie.Need-overflow-mul-x invariant-loop decreases-loop
+mul-x : tie.Need-offset_bounds-weights-d invariant-loop decreases-loop
 mul-x c = search rules
 
-shared-slice-read-x : tie.Need-shared-slice-read-x invariant-loop decreases-loop
+shared-slice-read-x : tie.Need-bounds-weights-d invariant-loop decreases-loop
 shared-slice-read-x c = omega arith
 
-returns : tie.Need-returns invariant-loop decreases-loop
-returns c = fails _ _ c.before.before.loop-test.true (light _ c.if1.true)
+returns : tie.Need-returns-then-x-lt-WEIGHT_LEAST invariant-loop decreases-loop
+returns c = fails _ _ c.before.before.loop-d-test.true (light _ c.if-x-lt-WEIGHT_LEAST.true)
 
-returns_2 : tie.Need-returns-2 invariant-loop decreases-loop
-returns_2 c = fails _ _ c.before.before.before.loop-test.true (heavy _ c.before.if1.false c.if2.true)
+returns_2 : tie.Need-returns-then-x-gt-WEIGHT_MOST invariant-loop decreases-loop
+returns_2 c = fails _ _ c.before.before.before.loop-d-test.true (heavy _ c.before.if-x-lt-WEIGHT_LEAST.false c.if-x-gt-WEIGHT_MOST.true)
 
-add-d : tie.Need-overflow-add-d invariant-loop decreases-loop
+add-d : tie.Need-overflow_add-d invariant-loop decreases-loop
 add-d c = omega arith
 
-loop-less : tie.Need-loop-smaller invariant-loop decreases-loop
+loop-less : tie.Need-loop-d-smaller invariant-loop decreases-loop
 loop-less c = omega arith
 
-loop-again : tie.Need-loop-preserved invariant-loop decreases-loop
+loop-again : tie.Need-loop-d-preserved invariant-loop decreases-loop
 loop-again c =
-    (omega arith, rw add-one (every_more _ _ c.before.before.before.before.loop.invariant.1 (good _ c.before.if1.false c.if2.false)))
+    (omega arith, rw add-one (every_more _ _ c.before.before.before.before.loop-d.invariant.1 (good _ c.before.if-x-lt-WEIGHT_LEAST.false c.if-x-gt-WEIGHT_MOST.false)))
 
-returns-3 : tie.Need-returns-3 invariant-loop decreases-loop
-returns-3 c = all _ _ (omega arith) c.before.loop.invariant.1
+returns-3 : tie.Need-returns invariant-loop decreases-loop
+returns-3 c = all _ _ (omega arith) c.before.loop-d.invariant.1
 
 pub good_weights_spec : {M : Type 1} → statement M
 good_weights_spec =

@@ -16,51 +16,51 @@ use Rattle.account.proofs.uncut.Tie as tie
 abbrev lent : tie.Start → Account
 lent c = account c.args.weights.now c.args.marks.now c.args.counts.now
 
-done : (c : tie.Then1) → uncut_number (lent c.before.before.before.before.before.before.before) c.before.before.before.before.before.before.before.args.k ≡ 0
-done c = sym c.before.before.uncut-answer.ensures ∙ sym c.before.number_of.ensures ∙ c.if1.true
+done : (c : tie.Then-number_of-eq0) → uncut_number (lent c.before.before.before.before.before.before) c.before.before.before.before.before.before.args.k ≡ 0
+done c = sym c.before.before.uncut_answer-answer.ensures ∙ sym c.before.number_of.ensures ∙ c.if-number_of-eq0.true
 
-ready : (c : tie.Then1) → Accepted (lent c.before.before.before.before.before.before.before) c.before.before.before.before.before.before.before.args.k (not (marks_cut (get_or c.before.before.before.before.before.before.before.args.marks.now c.before.before.before.before.before.before.before.args.k 0)))
-ready c = accepted (lent c.before.before.before.before.before.before.before) _ _ 10 0 (lit< tt) (done c)
+ready : (c : tie.Then-number_of-eq0) → Accepted (lent c.before.before.before.before.before.before) c.before.before.before.before.before.before.args.k (not (marks_cut (get_or c.before.before.before.before.before.before.args.marks.now c.before.before.before.before.before.before.args.k 0)))
+ready c = accepted (lent c.before.before.before.before.before.before) _ _ 10 0 (lit< tt) (done c)
 
-uncut-answer-requires : tie.Need-uncut-answer-requires
+uncut-answer-requires : tie.Need-uncut_answer-answer-requires
 uncut-answer-requires c κs = tt
 
-number-of-requires : tie.Need-number-of-requires
+number-of-requires : tie.Need-number_of-requires
 number-of-requires c κs = tt
 
-slice-read-marks : tie.Need-slice-read-marks
+slice-read-marks : tie.Need-bounds-marks-k
 slice-read-marks c = (ready c.before).marks
 
-sub-marks : tie.Need-overflow-sub-marks
+sub-marks : tie.Need-overflow_sub-marks
 sub-marks c =
-    let a = c.before.before.before.before.before.before.before.before.args in
-    omega (arith, cut_least (get_or a.marks.now a.k 0) (not-false _ (ready c.before).free))
+    let a = c.before.before.before.before.before.before.before.args in
+    omega (arith, cut_least (get_or a.marks.now a.k 0) ((not-false _ (ready c.before).free)))
 
-slice-write-marks : tie.Need-slice-write-marks
+slice-write-marks : tie.Need-bounds-marks-k-then-number_of-eq0
 slice-write-marks c = (ready c.before).marks
 
-same_length : tie.Need-same-length
+same_length : tie.Need-shape_of-marks-then-number_of-eq0
 same_length c = search rules
 
-returns : tie.Need-returns
+returns : tie.Need-returns-then-number_of-eq0
 returns c =
-    let a = c.before.before.before.before.before.before.before.before.args in
+    let a = c.before.before.before.before.before.before.before.args in
     let h = ready c.before in
     record {
-      answers = c.before.before.before.uncut-answer.ensures;
+      answers = c.before.before.before.uncut_answer-answer.ensures;
       leaves =
           leaves_done _ _ _ _ (done c.before)
           (ap (λ (m : ℕ). account a.weights.now (set a.marks.now a.k m) a.counts.now) (cut_less _ h.mark (not-false _ h.free)));
     }
 
-same_length_2 : tie.Need-same-length-2
+same_length_2 : tie.Need-shape_of-marks
 same_length_2 c = search rules
 
-returns_2 : tie.Need-returns-2
+returns_2 : tie.Need-returns
 returns_2 c =
     record {
-      answers = c.before.before.uncut-answer.ensures;
-      leaves = leaves_refused _ _ _ (λ e. c.if1.false (c.before.number_of.ensures ∙ c.before.before.uncut-answer.ensures ∙ e));
+      answers = c.before.before.uncut_answer-answer.ensures;
+      leaves = leaves_refused _ _ _ (λ e. c.if-number_of-eq0.false (c.before.number_of.ensures ∙ c.before.before.uncut_answer-answer.ensures ∙ e));
     }
 
 pub uncut_spec : {M : Type 1} → statement M

@@ -25,33 +25,33 @@ many : (means : ℕ) (marks counts : List ℕ) → 4 ≤ means → span_most < m
 many means marks counts h l =
     sym (unfit_rows (over means marks counts) 0 (simp (length-replicate, le-leb 1 (means - 3) (omega arith), lt-leb (means - 3) span_most l)))
 
-add-if1 : tie.Need-overflow-add-if1
+add-if1 : tie.Need-overflow_add-t-6
 add-if1 c = search rules
 
-returns : tie.Need-returns
-returns c = let a = c.before.before.before.args in few a.means a.marks.now a.counts.now c.if1.true
+returns : tie.Need-returns-then-means
+returns c = let a = c.before.before.before.args in few a.means a.marks.now a.counts.now c.if-means.true
 
-sub-n : tie.Need-overflow-sub-n
+sub-n : tie.Need-overflow_sub-n
 sub-n c = search rules
 
-returns_2 : tie.Need-returns-2
+returns_2 : tie.Need-returns-then-n-gt-SPAN_MOST
 returns_2 c =
     let a = c.before.before.before.before.args in
-    many a.means a.marks.now a.counts.now c.before.if1.false c.if2.true
+    many a.means a.marks.now a.counts.now c.before.if-means.false c.if-n-gt-SPAN_MOST.true
 
-array-share-prefix-ones : tie.Need-array-share-prefix-ones
+array-share-prefix-ones : tie.Need-slice_bounds-ones-end
 array-share-prefix-ones c = search rules
 
-slice-aggregate-check : tie.Need-slice-aggregate-check
+slice-aggregate-check : tie.Need-slice_bounds-check-end
 slice-aggregate-check c = simp length-take (omega arith)
 
 check-requires : tie.Need-check-requires
 check-requires c κs = search rules
 
-returns-3 : tie.Need-returns-3
+returns-3 : tie.Need-returns
 returns-3 c =
     let a = c.before.before.before.before.before.before.args in
-    c.check.ensures.0.answers ∙ ap (λ (w : List ℕ). account_rows (account w a.marks.now a.counts.now) 0) (take_replicate 1 (a.means - 3) span_most c.before.before.if2.false)
+    c.check.ensures.0.answers ∙ ap (λ (w : List ℕ). account_rows (account w a.marks.now a.counts.now) 0) (take_replicate 1 (a.means - 3) span_most c.before.before.if-n-gt-SPAN_MOST.false)
 
 pub account_row_spec : {M : Type 1} → statement M
 account_row_spec =

@@ -10,36 +10,36 @@ use Rattle.customer.proofs.daily_amount.Tie as tie
 product_fits : (v x : ℕ) → v ≤ 1_000_000_000_000 → x ≤ 6_999_999 → v * x < 2 ^ 64
 product_fits v x hv hx = lt_of_le_of_lt (mul-le-mul hv hx) (lit< tt)
 
-returns : tie.Need-returns
-returns c = let light = lt-leb 1 c.before.args.weight c.if1.true in record { answers = simp light; gives = simp light }
+returns : tie.Need-returns-then-weight-lt-WEIGHT_LEAST
+returns c = let light = lt-leb 1 c.before.args.weight c.if-weight-lt-WEIGHT_LEAST.true in record { answers = simp light; gives = simp light }
 
-returns_2 : tie.Need-returns-2
+returns_2 : tie.Need-returns-then-weight-gt-WEIGHT_MOST
 returns_2 c =
-    let least = le-leb 1 c.before.before.args.weight c.before.if1.false in
-    let heavy = lt-leb c.before.before.args.weight 6_999_999 c.if2.true in
+    let least = le-leb 1 c.before.before.args.weight c.before.if-weight-lt-WEIGHT_LEAST.false in
+    let heavy = lt-leb c.before.before.args.weight 6_999_999 c.if-weight-gt-WEIGHT_MOST.true in
     record { answers = simp (least, heavy); gives = simp (least, heavy) }
 
-returns-3 : tie.Need-returns-3
+returns-3 : tie.Need-returns-then-value-gt-VALUE_MOST
 returns-3 c =
     let a = c.before.before.before.args in
-    let least = le-leb 1 a.weight c.before.before.if1.false in
-    let most = le-leb a.weight 6_999_999 c.before.if2.false in
-    let great = lt-ltb 1_000_000_000_000 a.value c.if3.true in
+    let least = le-leb 1 a.weight c.before.before.if-weight-lt-WEIGHT_LEAST.false in
+    let most = le-leb a.weight 6_999_999 c.before.if-weight-gt-WEIGHT_MOST.false in
+    let great = lt-ltb 1_000_000_000_000 a.value c.if-value-gt-VALUE_MOST.true in
     record { answers = simp (least, most, great); gives = simp (least, most, great) }
 
-mul-nearest-of : tie.Need-overflow-mul-nearest-of
-mul-nearest-of c = record { fits = product_fits _ _ c.if3.false c.before.if2.false }
+mul-nearest-of : tie.Need-overflow_mul-value
+mul-nearest-of c = record { fits = product_fits _ _ c.if-value-gt-VALUE_MOST.false c.before.if-weight-gt-WEIGHT_MOST.false }
 
-nearest-of-requires : tie.Need-nearest-of-requires
+nearest-of-requires : tie.Need-nearest_of-requires
 nearest-of-requires c κs = search rules
 
-returns-4 : tie.Need-returns-4
+returns-4 : tie.Need-returns
 returns-4 c =
     let a = c.before.before.before.before.args in
-    let least = le-leb 1 a.weight c.before.before.before.if1.false in
-    let most = le-leb a.weight 6_999_999 c.before.before.if2.false in
-    let small = le-ltb 1_000_000_000_000 a.value c.before.if3.false in
-    record { answers = simp (least, most, small); gives = simp (least, most, small) c.nearest-of.ensures }
+    let least = le-leb 1 a.weight c.before.before.before.if-weight-lt-WEIGHT_LEAST.false in
+    let most = le-leb a.weight 6_999_999 c.before.before.if-weight-gt-WEIGHT_MOST.false in
+    let small = le-ltb 1_000_000_000_000 a.value c.before.if-value-gt-VALUE_MOST.false in
+    record { answers = simp (least, most, small); gives = simp (least, most, small) c.nearest_of.ensures }
 
 pub daily_amount_spec : {M : Type 1} → statement M
 daily_amount_spec = tie.close (tie.spec returns returns_2 returns-3 mul-nearest-of nearest-of-requires returns-4)

@@ -20,40 +20,40 @@ none_left : (w : List ℕ) (i : ℕ) → length w ≤ i → sum_of (drop i w) �
 unfolding sum_of
 none_left w i h = rw (drop_of_length-le w h)
 
-abbrev invariant-loop : tie.invariant-loop
+abbrev invariant-loop : tie.invariant-loop-i
 invariant-loop weights sum₀ i₀ sum i = (i ≤ length weights) × (sum ≤ i * 2 ^ 32) × (sum + sum_of (drop i weights) ≡ sum_of weights)
 
-abbrev decreases-loop : tie.decreases-loop
+abbrev decreases-loop : tie.decreases-loop-i
 decreases-loop weights sum₀ i₀ sum i = length weights - i
 
-loop-holds : tie.Need-loop-init invariant-loop decreases-loop
+loop-holds : tie.Need-loop-i-init invariant-loop decreases-loop
 loop-holds c = omega arith
 
-mul-sum : tie.Need-overflow-mul-sum invariant-loop decreases-loop
+mul-sum : tie.Need-offset_bounds-weights-i invariant-loop decreases-loop
 mul-sum c = search rules
 
-shared-slice-read-sum : tie.Need-shared-slice-read-sum invariant-loop decreases-loop
+shared-slice-read-sum : tie.Need-bounds-weights-i invariant-loop decreases-loop
 shared-slice-read-sum c = omega arith
 
-cast-sum : tie.Need-overflow-cast-sum invariant-loop decreases-loop
-cast-sum c = omega (arith, c.shared-slice-known.given c.before.before.loop.i)
+cast-sum : tie.Need-overflow_cast-sum invariant-loop decreases-loop
+cast-sum c = omega (arith, c.shared_slice_known-1.given c.before.before.loop-i.i)
 
-add-sum : tie.Need-overflow-add-sum invariant-loop decreases-loop
-add-sum c = omega (arith, c.shared-slice-known.given c.before.before.loop.i)
+add-sum : tie.Need-overflow_add-sum invariant-loop decreases-loop
+add-sum c = omega (arith, c.shared_slice_known-1.given c.before.before.loop-i.i)
 
-add-i : tie.Need-overflow-add-i invariant-loop decreases-loop
+add-i : tie.Need-overflow_add-i invariant-loop decreases-loop
 add-i c = omega arith
 
-loop-less : tie.Need-loop-smaller invariant-loop decreases-loop
+loop-less : tie.Need-loop-i-smaller invariant-loop decreases-loop
 loop-less c = omega arith
 
-loop-again : tie.Need-loop-preserved invariant-loop decreases-loop
+loop-again : tie.Need-loop-i-preserved invariant-loop decreases-loop
 loop-again c =
-    let i = c.before.before.loop.i in
-    omega (arith, c.shared-slice-known.given i, one_more c.before.before.before.args.weights.now i c.before.loop-test.true)
+    let i = c.before.before.loop-i.i in
+    omega (arith, c.shared_slice_known-1.given i, one_more c.before.before.before.args.weights.now i c.before.loop-i-test.true)
 
 returns : tie.Need-returns invariant-loop decreases-loop
-returns c = omega (arith, none_left c.before.before.args.weights.now c.before.loop.i c.loop-test.false)
+returns c = omega (arith, none_left c.before.before.args.weights.now c.before.loop-i.i c.loop-i-test.false)
 
 pub sum_of_spec : {M : Type 1} → statement M
 sum_of_spec =

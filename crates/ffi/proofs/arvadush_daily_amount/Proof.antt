@@ -4,14 +4,14 @@ use borrow.Author.Rules.{rules}
 use Rattle.ffi.proofs.arvadush_daily_amount.Statement.{statement}
 use Rattle.ffi.proofs.arvadush_daily_amount.Tie as tie
 
-daily-amount-requires : tie.Need-daily-amount-requires
+daily-amount-requires : tie.Need-daily_amount-requires
 daily-amount-requires c κs = search rules
 
 customer-requires : tie.Need-customer-requires
 customer-requires c κs = search rules
 
 returns : tie.Need-returns
-returns c = rw c.customer.ensures (c.before.daily-amount.ensures, refl)
+returns c = rw c.customer.ensures (c.before.daily_amount.ensures, refl)
 
 pub arvadush_daily_amount_spec : {M : Type 1} → statement M
 arvadush_daily_amount_spec =

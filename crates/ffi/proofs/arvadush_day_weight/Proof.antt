@@ -4,14 +4,14 @@ use mir.Facts.{to_z-of_z}
 use Rattle.ffi.proofs.arvadush_day_weight.Statement.{statement}
 use Rattle.ffi.proofs.arvadush_day_weight.Tie as tie
 
-day-weight-requires : tie.Need-day-weight-requires
+day-weight-requires : tie.Need-day_weight-requires
 day-weight-requires c κs = search rules
 
 weight-requires : tie.Need-weight-requires
 weight-requires c κs = search rules
 
 returns : tie.Need-returns
-returns c = rw c.weight.ensures (simp (to_z-of_z c.before.before.ranges.t) at c.before.day-weight.ensures)
+returns c = rw c.weight.ensures (simp (to_z-of_z c.before.before.ranges.t) at c.before.day_weight.ensures)
 
 pub arvadush_day_weight_spec : {M : Type 1} → statement M
 arvadush_day_weight_spec =

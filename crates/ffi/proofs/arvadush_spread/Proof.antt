@@ -10,14 +10,14 @@ spread-requires c κs = search rules
 spread-requires-2 : tie.Need-spread-requires-2
 spread-requires-2 c κs = search rules
 
-same_length : tie.Need-same-length
+same_length : tie.Need-shape_of-amounts
 same_length c = search rules
 
-same_length_2 : tie.Need-same-length-2
+same_length_2 : tie.Need-shape_of-totals
 same_length_2 c = search rules
 
 returns : tie.Need-returns
-returns c = rw c.spread2.ensures (c.before.before.before.before.before.spread.ensures, refl)
+returns c = rw c.spread-2.ensures (c.before.before.before.before.before.spread.ensures, refl)
 
 pub arvadush_spread_spec : {M : Type 1} → statement M
 arvadush_spread_spec =

@@ -10,17 +10,17 @@ statement-requires c κs = search rules
 statement-requires-2 : tie.Need-statement-requires-2
 statement-requires-2 c κs = search rules
 
-same_length : tie.Need-same-length
+same_length : tie.Need-shape_of-from
 same_length c = search rules
 
-same_length_2 : tie.Need-same-length-2
+same_length_2 : tie.Need-shape_of-to
 same_length_2 c = search rules
 
-same-length-3 : tie.Need-same-length-3
+same-length-3 : tie.Need-shape_of-wh
 same-length-3 c = search rules
 
 returns : tie.Need-returns
-returns c = rw c.statement2.ensures (c.before.before.before.before.before.before.before.statement.ensures, refl)
+returns c = rw c.statement-2.ensures (c.before.before.before.before.before.before.before.statement.ensures, refl)
 
 pub arvadush_statement_spec : {M : Type 1} → statement M
 arvadush_statement_spec =

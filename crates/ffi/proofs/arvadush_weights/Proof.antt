@@ -10,11 +10,11 @@ weights-requires c κs = search rules
 weights-requires-2 : tie.Need-weights-requires-2
 weights-requires-2 c κs = search rules
 
-same_length : tie.Need-same-length
+same_length : tie.Need-shape_of-out
 same_length c = search rules
 
 returns : tie.Need-returns
-returns c = rw c.weights2.ensures (c.before.before.before.weights.ensures, refl)
+returns c = rw c.weights-2.ensures (c.before.before.before.weights.ensures, refl)
 
 pub arvadush_weights_spec : {M : Type 1} → statement M
 arvadush_weights_spec =

@@ -3,17 +3,17 @@ use borrow.Author.Rules.{rules}
 use Rattle.ffi.proofs.arvadush_write.Statement.{statement}
 use Rattle.ffi.proofs.arvadush_write.Tie as tie
 
-write-case-requires : tie.Need-write-case-requires
+write-case-requires : tie.Need-write_case-requires
 write-case-requires c κs = search rules
 
 file-requires : tie.Need-file-requires
 file-requires c κs = search rules
 
-same_length : tie.Need-same-length
+same_length : tie.Need-shape_of-out
 same_length c = search rules
 
 returns : tie.Need-returns
-returns c = rw c.file.ensures c.before.before.before.write-case.ensures
+returns c = rw c.file.ensures c.before.before.before.write_case.ensures
 
 pub arvadush_write_spec : {M : Type 1} → statement M
 arvadush_write_spec =

@@ -13,40 +13,40 @@ use Rattle.layout.proofs.Sums.{some_more}
 use Rattle.layout.proofs.part_too_great.Statement.{statement}
 use Rattle.layout.proofs.part_too_great.Tie as tie
 
-abbrev invariant-loop : tie.invariant-loop
+abbrev invariant-loop : tie.invariant-loop-i
 invariant-loop wh parts i₀ i = (i ≤ parts) × (somewhere (λ k. ltb energy_most (get_or wh k 0)) i ≡ false)
 
-abbrev decreases-loop : tie.decreases-loop
+abbrev decreases-loop : tie.decreases-loop-i
 decreases-loop wh parts i₀ i = parts - i
 
-loop-holds : tie.Need-loop-init invariant-loop decreases-loop
+loop-holds : tie.Need-loop-i-init invariant-loop decreases-loop
 loop-holds c = (omega arith, some_zero _)
 
-mul-if1 : tie.Need-overflow-mul-if1 invariant-loop decreases-loop
+mul-if1 : tie.Need-offset_bounds-wh-i invariant-loop decreases-loop
 mul-if1 c = omega arith
 
-shared-slice-read-if1 : tie.Need-shared-slice-read-if1 invariant-loop decreases-loop
+shared-slice-read-if1 : tie.Need-bounds-wh-i invariant-loop decreases-loop
 shared-slice-read-if1 c = omega arith
 
-returns : tie.Need-returns invariant-loop decreases-loop
+returns : tie.Need-returns-then-wh-i-gt-ENERGY_MOST invariant-loop decreases-loop
 returns c =
-    let at = c.before.before.before.loop.i in
-    sym (some_at _ _ at c.before.before.loop-test.true (lt-ltb energy_most _ c.if1.true))
+    let at = c.before.before.before.loop-i.i in
+    sym (some_at _ _ at c.before.before.loop-i-test.true (lt-ltb energy_most _ c.if-wh-i-gt-ENERGY_MOST.true))
 
-add-i : tie.Need-overflow-add-i invariant-loop decreases-loop
+add-i : tie.Need-overflow_add-i invariant-loop decreases-loop
 add-i c = omega arith
 
-loop-less : tie.Need-loop-smaller invariant-loop decreases-loop
+loop-less : tie.Need-loop-i-smaller invariant-loop decreases-loop
 loop-less c = omega arith
 
-loop-again : tie.Need-loop-preserved invariant-loop decreases-loop
+loop-again : tie.Need-loop-i-preserved invariant-loop decreases-loop
 loop-again c =
-    let l = c.before.before.before.loop in
-    (omega arith, some_more _ l.i ∙ simp (l.invariant.1, le-ltb energy_most _ c.if1.false))
+    let l = c.before.before.before.loop-i in
+    (omega arith, some_more _ l.i ∙ simp (l.invariant.1, le-ltb energy_most _ c.if-wh-i-gt-ENERGY_MOST.false))
 
-returns_2 : tie.Need-returns-2 invariant-loop decreases-loop
+returns_2 : tie.Need-returns invariant-loop decreases-loop
 returns_2 c =
-    let l = c.before.loop in
+    let l = c.before.loop-i in
     let all : l.i ≡ c.before.before.args.parts = omega arith in
     sym (rw all at l.invariant.1)
 

@@ -21,66 +21,66 @@ in_order : (f t e : List ℕ) (m : ℕ) → (m ≡ 0 → ⊥) → m ≤ span_mos
 in_order f t e m h0 h1 h2 h3 h4 =
     simp (ne_eqb m 0 h0, le-ltb span_most m h1, le-ltb (length f) m h2, le-ltb (length t) m h3, le-ltb (length e) m h4)
 
-returns : tie.Need-returns
+returns : tie.Need-returns-then-parts-eq0
 returns c =
     let a = c.before.before.before.before.before.args in
     none_laid (outputs a.from.now a.to.now a.wh.now) a.parts _
-    (simp (eq-eqb a.parts 0 c.if1.true))
+    (simp (eq-eqb a.parts 0 c.if-parts-eq0.true))
 
-returns_2 : tie.Need-returns-2
+returns_2 : tie.Need-returns-then-parts-gt-SPAN_MOST
 returns_2 c =
     let a = c.before.before.before.before.before.before.args in
     none_laid (outputs a.from.now a.to.now a.wh.now) a.parts _
-    (simp (ne_eqb a.parts 0 c.before.if1.false, lt-ltb span_most a.parts c.if2.true))
+    (simp (ne_eqb a.parts 0 c.before.if-parts-eq0.false, lt-ltb span_most a.parts c.if-parts-gt-SPAN_MOST.true))
 
-returns-3 : tie.Need-returns-3
+returns-3 : tie.Need-returns-then-from-parts
 returns-3 c =
     let a = c.before.before.before.before.before.before.before.args in
     none_laid (outputs a.from.now a.to.now a.wh.now) a.parts _
-    (simp (ne_eqb a.parts 0 c.before.before.if1.false, le-ltb span_most a.parts c.before.if2.false, lt-ltb (length a.from.now) a.parts c.if3.true))
+    (simp (ne_eqb a.parts 0 c.before.before.if-parts-eq0.false, le-ltb span_most a.parts c.before.if-parts-gt-SPAN_MOST.false, lt-ltb (length a.from.now) a.parts c.if-from-parts.true))
 
-returns-4 : tie.Need-returns-4
+returns-4 : tie.Need-returns-then-to-parts
 returns-4 c =
     let a = c.before.before.before.before.before.before.before.before.args in
     none_laid (outputs a.from.now a.to.now a.wh.now) a.parts _
-    (simp (ne_eqb a.parts 0 c.before.before.before.if1.false, le-ltb span_most a.parts c.before.before.if2.false, le-ltb (length a.from.now) a.parts c.before.if3.false, lt-ltb (length a.to.now) a.parts c.if4.true))
+    (simp (ne_eqb a.parts 0 c.before.before.before.if-parts-eq0.false, le-ltb span_most a.parts c.before.before.if-parts-gt-SPAN_MOST.false, le-ltb (length a.from.now) a.parts c.before.if-from-parts.false, lt-ltb (length a.to.now) a.parts c.if-to-parts.true))
 
-returns-5 : tie.Need-returns-5
+returns-5 : tie.Need-returns-then-wh-parts
 returns-5 c =
     let a = c.before.before.before.before.before.before.before.before.before.args in
     none_laid (outputs a.from.now a.to.now a.wh.now) a.parts _
-    (simp (ne_eqb a.parts 0 c.before.before.before.before.if1.false, le-ltb span_most a.parts c.before.before.before.if2.false, le-ltb (length a.from.now) a.parts c.before.before.if3.false, le-ltb (length a.to.now) a.parts c.before.if4.false, lt-ltb (length a.wh.now) a.parts c.if5.true))
+    (simp (ne_eqb a.parts 0 c.before.before.before.before.if-parts-eq0.false, le-ltb span_most a.parts c.before.before.before.if-parts-gt-SPAN_MOST.false, le-ltb (length a.from.now) a.parts c.before.before.if-from-parts.false, le-ltb (length a.to.now) a.parts c.before.if-to-parts.false, lt-ltb (length a.wh.now) a.parts c.if-wh-parts.true))
 
-part-too-great-requires : tie.Need-part-too-great-requires
+part-too-great-requires : tie.Need-part_too_great-requires
 part-too-great-requires c κs = search rules
 
-returns-6 : tie.Need-returns-6
+returns-6 : tie.Need-returns-then-part_too_great
 returns-6 c =
     let a = c.before.before.before.before.before.before.before.before.before.before.before.args in
     none_laid (outputs a.from.now a.to.now a.wh.now) a.parts _
-    (in_order a.from.now a.to.now a.wh.now a.parts c.before.before.before.before.before.before.if1.false c.before.before.before.before.before.if2.false c.before.before.before.before.if3.false c.before.before.before.if4.false c.before.before.if5.false ∙
-    sym c.before.part-too-great.ensures ∙
-    c.if6.true)
+    (in_order a.from.now a.to.now a.wh.now a.parts c.before.before.before.before.before.before.if-parts-eq0.false c.before.before.before.before.before.if-parts-gt-SPAN_MOST.false c.before.before.before.before.if-from-parts.false c.before.before.before.if-to-parts.false c.before.before.if-wh-parts.false ∙
+    sym c.before.part_too_great.ensures ∙
+    c.if-part_too_great.true)
 
 total-requires : tie.Need-total-requires
-total-requires c κs = (search rules, search rules, sym c.before.part-too-great.ensures ∙ c.if6.false)
+total-requires c κs = (search rules, search rules, sym c.before.part_too_great.ensures ∙ c.if-part_too_great.false)
 
-parts-text-requires : tie.Need-parts-text-requires
+parts-text-requires : tie.Need-parts_text-requires
 parts-text-requires c κs =
     let a = c.before.before.before.before.before.before.before.before.before.before.before.before.before.args in
     (search rules, c.before.total.ensures a.from.now a.to.now)
 
-same_length : tie.Need-same-length
+same_length : tie.Need-shape_of-out
 same_length c = search rules
 
-returns-7 : tie.Need-returns-7
+returns-7 : tie.Need-returns
 returns-7 c =
     let a = c.before.before.before.before.before.before.before.before.before.before.before.before.before.before.before.before.args in
-    let text = c.before.before.parts-text in
+    let text = c.before.before.parts_text in
     given_laid (outputs a.from.now a.to.now a.wh.now) a.parts _ _ _
-    (in_order a.from.now a.to.now a.wh.now a.parts c.before.before.before.before.before.before.before.before.before.before.before.if1.false c.before.before.before.before.before.before.before.before.before.before.if2.false c.before.before.before.before.before.before.before.before.before.if3.false c.before.before.before.before.before.before.before.before.if4.false c.before.before.before.before.before.before.before.if5.false ∙
-    sym c.before.before.before.before.before.before.part-too-great.ensures ∙
-    c.before.before.before.before.before.if6.false)
+    (in_order a.from.now a.to.now a.wh.now a.parts c.before.before.before.before.before.before.before.before.before.before.before.if-parts-eq0.false c.before.before.before.before.before.before.before.before.before.before.if-parts-gt-SPAN_MOST.false c.before.before.before.before.before.before.before.before.before.if-from-parts.false c.before.before.before.before.before.before.before.before.if-to-parts.false c.before.before.before.before.before.before.before.if-wh-parts.false ∙
+    sym c.before.before.before.before.before.before.part_too_great.ensures ∙
+    c.before.before.before.before.before.if-part_too_great.false)
     text.ensures
 
 pub statement_text_spec : {M : Type 1} → statement M

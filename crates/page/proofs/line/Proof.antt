@@ -16,38 +16,38 @@ fits c = small_fits _ _ _ _ c.requires.1
 column-requires : tie.Need-column-requires
 column-requires c κs = let f = fits c.before.before in (omega arith, omega (arith, f.from_fits, f.to_fits))
 
-add-column : tie.Need-overflow-add-column
+add-column : tie.Need-overflow_add-at
 add-column c = search rules
 
 column-requires-2 : tie.Need-column-requires-2
 column-requires-2 c κs = let f = fits c.before.before.before.before.before.before in (omega arith, omega (arith, f.from_fits, f.to_fits))
 
-add-column-2 : tie.Need-overflow-add-column-2
+add-column-2 : tie.Need-overflow_add-at-2
 add-column-2 c = search rules
 
 column-requires-3 : tie.Need-column-requires-3
 column-requires-3 c κs = let f = fits c.before.before.before.before.before.before.before.before.before.before in (omega arith, omega (arith, f.wh_fits, f.sum_fits))
 
-add-column-3 : tie.Need-overflow-add-column-3
+add-column-3 : tie.Need-overflow_add-at-3
 add-column-3 c = search rules
 
 column-requires-4 : tie.Need-column-requires-4
 column-requires-4 c κs = let f = fits c.before.before.before.before.before.before.before.before.before.before.before.before.before.before in (omega arith, omega (arith, f.wh_fits, f.sum_fits))
 
-add-page : tie.Need-overflow-add-page
+add-page : tie.Need-overflow_add-page
 add-page c = search rules
 
-slice-write-page : tie.Need-slice-write-page
+slice-write-page : tie.Need-bounds-page-at
 slice-write-page c = search rules
 
-same_length : tie.Need-same-length
+same_length : tie.Need-shape_of-page
 same_length c =
     let fourth = c.before.before in
     let third = fourth.before.before.before.before in
     let second = third.before.before.before.before in
     let first = second.before.before.before.before in
     let a = first.before.before.before.args in
-    length-set fourth.column4.new.0 (a.at + 40) _ ∙ fourth.column4.auto.0 ∙ third.column3.auto.0 ∙ second.column2.auto.0 ∙ first.column.auto.0
+    length-set fourth.column-4.new.page (a.at + 40) _ ∙ fourth.column-4.auto.page ∙ third.column-3.auto.page ∙ second.column-2.auto.page ∙ first.column.auto.page
 
 returns : tie.Need-returns
 returns c =
@@ -59,9 +59,9 @@ returns c =
     let a = start.args in
     columns_stored a.page.now a.at (decimal a.from) (decimal a.to) (decimal a.wh) (decimal a.sum) (fits start)
     first.column.ensures
-    second.column2.ensures
-    third.column3.ensures
-    fourth.column4.ensures
+    second.column-2.ensures
+    third.column-3.ensures
+    fourth.column-4.ensures
 
 pub line_spec : {M : Type 1} → statement M
 line_spec =

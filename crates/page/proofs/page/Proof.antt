@@ -11,39 +11,39 @@ use Rattle.page.proofs.Table.{ruled, too_long, cut_fits}
 use Rattle.page.proofs.page.Statement.{statement}
 use Rattle.page.proofs.page.Tie as tie
 
-returns : tie.Need-returns
+returns : tie.Need-returns-then-n-gt-SPAN_MOST
 returns c =
     let a = c.before.before.before.before.before.args in
     let b = account a.weights.now a.marks.now a.counts.now in
-    ruled b a.page.now _ (too_long b a.page.now c.if1.true) refl
+    ruled b a.page.now _ (too_long b a.page.now c.if-n-gt-SPAN_MOST.true) refl
 
-array-borrow-prefix-from : tie.Need-array-borrow-prefix-from
+array-borrow-prefix-from : tie.Need-slice_bounds-from-end
 array-borrow-prefix-from c = search rules
 
-slice-aggregate-with-outputs : tie.Need-slice-aggregate-with-outputs
+slice-aggregate-with-outputs : tie.Need-slice_bounds-with_outputs-end
 slice-aggregate-with-outputs c = simp length-take (omega arith)
 
-array-borrow-prefix-to : tie.Need-array-borrow-prefix-to
+array-borrow-prefix-to : tie.Need-slice_bounds-to-end
 array-borrow-prefix-to c = search rules
 
-slice-aggregate-with-outputs-2 : tie.Need-slice-aggregate-with-outputs-2
+slice-aggregate-with-outputs-2 : tie.Need-slice_bounds-with_outputs-end-2
 slice-aggregate-with-outputs-2 c = simp length-take (omega arith)
 
-array-borrow-prefix-wh : tie.Need-array-borrow-prefix-wh
+array-borrow-prefix-wh : tie.Need-slice_bounds-wh-end
 array-borrow-prefix-wh c = search rules
 
-slice-aggregate-with-outputs-3 : tie.Need-slice-aggregate-with-outputs-3
+slice-aggregate-with-outputs-3 : tie.Need-slice_bounds-with_outputs-end-3
 slice-aggregate-with-outputs-3 c = simp length-take (omega arith)
 
-with-outputs-requires : tie.Need-with-outputs-requires
+with-outputs-requires : tie.Need-with_outputs-requires
 with-outputs-requires c κs =
     let none : List ℕ = replicate span_most 0 in
     cut_fits (length c.before.before.before.before.before.before.before.before.before.args.weights.now) none none none (omega arith) (omega arith) (omega arith)
 
-same_length : tie.Need-same-length
+same_length : tie.Need-shape_of-page
 same_length c = search rules
 
-returns_2 : tie.Need-returns-2
+returns_2 : tie.Need-returns
 returns_2 c = search rules
 
 pub page_spec : {M : Type 1} → statement M

@@ -34,35 +34,35 @@ declined {k} {w} {t} r n e f p g =
     }
 
 -- row 1
-returns : tie.Need-returns
-returns c = declined NoProfile 0 (simp (le-leb _ _ c.if1.true)) refl refl refl
+returns : tie.Need-returns-then-profile-ge-COUNT
+returns c = declined NoProfile 0 (simp (le-leb _ _ c.if-profile-ge-COUNT.true)) refl refl refl
 
 -- row 2
-returns_2 : tie.Need-returns-2
+returns_2 : tie.Need-returns-then-weekday-gt6
 returns_2 c =
-    declined NoWeekday 1 (simp (lt-leb _ _ c.before.if1.false, lt-ltb 6 c.before.before.args.weekday (omega arith))) refl refl refl
+    declined NoWeekday 1 (simp (lt-leb _ _ c.before.if-profile-ge-COUNT.false, lt-ltb 6 c.before.before.args.weekday (omega arith))) refl refl refl
 
-in-range-requires : tie.Need-in-range-requires
+in-range-requires : tie.Need-in_range-requires
 in-range-requires c κs = search rules
 
-inside : (c : tie.After-in-range) → c.in_range_lem.result ≡ in_range c.before.before.before.args.t
-inside c = simp (to_z-of_z c.before.before.before.ranges.t) at c.in_range_lem.ensures
+inside : (c : tie.After-in_range) → c.in_range.result ≡ in_range c.before.before.before.args.t
+inside c = simp (to_z-of_z c.before.before.before.ranges.t) at c.in_range.ensures
 
-weight-at-requires : tie.Need-weight-at-requires
+weight-at-requires : tie.Need-weight_at-requires
 weight-at-requires c κs = (
-  c.before.before.before.if1.false,
-  omega (arith, c.before.before.if2.false),
-  simp (to_z-of_z c.before.before.before.before.ranges.t) (sym (inside c.before) ∙ c.if3.true),
+  c.before.before.before.if-profile-ge-COUNT.false,
+  omega (arith, c.before.before.if-weekday-gt6.false),
+  simp (to_z-of_z c.before.before.before.before.ranges.t) (sym (inside c.before) ∙ c.if-in_range.true),
 )
 
 -- no row
-returns-3 : tie.Need-returns-3
+returns-3 : tie.Need-returns-then-in_range
 returns-3 c =
     let q = c.before.before.before.before.before in
-    let profile = c.before.before.before.before.if1.false in
-    let weekday = c.before.before.before.if2.false in
-    let range = sym (inside c.before.before) ∙ c.before.if3.true in
-    let e = simp (to_z-of_z q.ranges.t) at c.weight-at.ensures in
+    let profile = c.before.before.before.before.if-profile-ge-COUNT.false in
+    let weekday = c.before.before.before.if-weekday-gt6.false in
+    let range = sym (inside c.before.before) ∙ c.before.if-in_range.true in
+    let e = simp (to_z-of_z q.ranges.t) at c.weight_at.ensures in
     let known = whole_table q.args.profile q.args.weekday q.args.t profile (omega arith) range in
     record {
       answers = simp (lt-leb _ _ profile, le-ltb _ _ weekday, range);
@@ -73,13 +73,13 @@ returns-3 c =
     }
 
 -- row 4
-returns-4 : tie.Need-returns-4
+returns-4 : tie.Need-returns
 returns-4 c =
     declined (OutOfRange 0) 3
     (simp (
-      lt-leb _ _ c.before.before.before.if1.false,
-      le-ltb _ _ c.before.before.if2.false,
-      sym (inside c.before) ∙ c.if3.false,
+      lt-leb _ _ c.before.before.before.if-profile-ge-COUNT.false,
+      le-ltb _ _ c.before.before.if-weekday-gt6.false,
+      sym (inside c.before) ∙ c.if-in_range.false,
     ))
     refl
     refl

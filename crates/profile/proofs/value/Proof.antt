@@ -10,9 +10,9 @@ use Rattle.profile.proofs.value.Statement.{statement}
 use Rattle.profile.proofs.value.Tie as tie
 
 -- row 1
-returns : tie.Need-returns
+returns : tie.Need-returns-then-profile-ge-COUNT
 returns c =
-    let test = le-leb _ _ c.if1.true in
+    let test = le-leb _ _ c.if-profile-ge-COUNT.true in
     record {
       answers = simp test;
       places = refl;
@@ -20,28 +20,28 @@ returns c =
       high = simp test;
     }
 
-in-range-requires : tie.Need-in-range-requires
+in-range-requires : tie.Need-in_range-requires
 in-range-requires c κs = search rules
 
-inside : (c : tie.After-in-range) → c.in_range_lem.result ≡ in_range c.before.before.args.t
-inside c = simp (to_z-of_z c.before.before.ranges.t) at c.in_range_lem.ensures
+inside : (c : tie.After-in_range) → c.in_range.result ≡ in_range c.before.before.args.t
+inside c = simp (to_z-of_z c.before.before.ranges.t) at c.in_range.ensures
 
-values-at-requires : tie.Need-values-at-requires
+values-at-requires : tie.Need-values_at-v-requires
 values-at-requires c κs = (
-  c.before.before.if1.false,
-  simp (to_z-of_z c.before.before.before.ranges.t) (sym (inside c.before) ∙ c.if2.true),
+  c.before.before.if-profile-ge-COUNT.false,
+  simp (to_z-of_z c.before.before.before.ranges.t) (sym (inside c.before) ∙ c.if-in_range.true),
 )
 
 -- no row
-returns_2 : tie.Need-returns-2
+returns_2 : tie.Need-returns-then-in_range
 returns_2 c =
     let q = c.before.before.before.before.before in
     let k = q.args.profile in
     let t = q.args.t in
-    let known = c.before.before.before.before.if1.false in
+    let known = c.before.before.before.before.if-profile-ge-COUNT.false in
     let test = lt-leb _ _ known in
-    let range = sym (inside c.before.before.before) ∙ c.before.before.if2.true in
-    let v = simp (to_z-of_z q.ranges.t) at c.before.values-at.ensures in
+    let range = sym (inside c.before.before.before) ∙ c.before.before.if-in_range.true in
+    let v = simp (to_z-of_z q.ranges.t) at c.before.values_at-v.ensures in
     record {
       answers = simp (test, range);
       places = refl;
@@ -50,10 +50,10 @@ returns_2 c =
     }
 
 -- row 4
-returns-3 : tie.Need-returns-3
+returns-3 : tie.Need-returns
 returns-3 c =
-    let test = lt-leb _ _ c.before.before.if1.false in
-    let range = sym (inside c.before) ∙ c.if2.false in
+    let test = lt-leb _ _ c.before.before.if-profile-ge-COUNT.false in
+    let range = sym (inside c.before) ∙ c.if-in_range.false in
     record {
       answers = simp (test, range);
       places = refl;

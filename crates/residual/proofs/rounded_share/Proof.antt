@@ -13,13 +13,13 @@ use Rattle.residual.proofs.rounded_share.Tie as tie
 product : {load part sum : ℕ} → Shareable load part sum → load * part ≤ load_most * base_most
 product {load} {part} {sum} h = let within : part ≤ base_most = omega (arith, h.share, h.sum_within) in mul-le-mul h.load_within within
 
-mul-result : tie.Need-overflow-mul-result
+mul-result : tie.Need-overflow_mul-result
 mul-result c = omega (arith, product c.requires)
 
-add-result : tie.Need-overflow-add-result
+add-result : tie.Need-overflow_add-result
 add-result c = omega (arith, product c.requires, c.requires.sum_within)
 
-div-result : tie.Need-nonzero-div-result
+div-result : tie.Need-nonzero_div-result-2
 div-result c = search rules
 
 returns : tie.Need-returns

@@ -30,26 +30,26 @@ room x d fits nz large =
     let two : 2 ≤ d = omega arith in
     omega (arith, mul-le-mul_left (x / d) two, div-add-mod' x d)
 
-returns : tie.Need-returns
-returns c = rw c.if1.true (sym (nearest_zero _))
+returns : tie.Need-returns-then-d-eq0
+returns c = rw c.if-d-eq0.true (sym (nearest_zero _))
 
-div-q : tie.Need-nonzero-div-q
+div-q : tie.Need-nonzero_div-q
 div-q c = search rules
 
-rem-rest : tie.Need-nonzero-rem-rest
+rem-rest : tie.Need-nonzero_rem-rest
 rem-rest c = search rules
 
-sub-if2 : tie.Need-overflow-sub-if2
+sub-if2 : tie.Need-overflow_sub-d
 sub-if2 c = let a = c.before.args in omega (arith, mod-lt a.x {m = a.d} (omega arith))
 
-returns_2 : tie.Need-returns-2
-returns_2 c = down _ _ c.before.if1.false c.if2.true
+returns_2 : tie.Need-returns-then-rest-d
+returns_2 c = down _ _ c.before.if-d-eq0.false c.if-rest-d.true
 
-add-result : tie.Need-overflow-add-result
-add-result c = record { fits = room _ _ c.before.before.ranges.x.fits c.before.if1.false c.if2.false }
+add-result : tie.Need-overflow_add-result
+add-result c = record { fits = room _ _ c.before.before.ranges.x.fits c.before.if-d-eq0.false c.if-rest-d.false }
 
-returns-3 : tie.Need-returns-3
-returns-3 c = up _ _ c.before.if1.false c.if2.false
+returns-3 : tie.Need-returns-else-rest-d
+returns-3 c = up _ _ c.before.if-d-eq0.false c.if-rest-d.false
 
 pub nearest_of_spec : {M : Type 1} → statement M
 nearest_of_spec = tie.close (tie.spec returns div-q rem-rest sub-if2 add-result returns_2 returns-3)

@@ -14,13 +14,13 @@ use Rattle.statement.proofs.rounded_share.Tie as tie
 product : {e zk z : ℕ} → Splittable 0 e zk z → e * zk ≤ energy_most * (span_most * weight_most)
 product h = omega (arith, mul-le-mul h.energy h.share, mul-le-mul h.energy h.sum)
 
-mul-result : tie.Need-overflow-mul-result
+mul-result : tie.Need-overflow_mul-result
 mul-result c = omega (arith, product c.requires)
 
-add-result : tie.Need-overflow-add-result
+add-result : tie.Need-overflow_add-result
 add-result c = omega (arith, product c.requires, c.requires.sum)
 
-div-result : tie.Need-nonzero-div-result
+div-result : tie.Need-nonzero_div-result-2
 div-result c = search rules
 
 returns : tie.Need-returns

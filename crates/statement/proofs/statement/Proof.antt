@@ -20,97 +20,97 @@ abbrev given : tie.Start → Outputs
 given c = outputs c.args.from.now c.args.to.now c.args.wh.now
 
 -- past row 3 of the outputs, past rows 3 and 5 of the account, and with the outputs cleared and the readings counted
-abbrev start : tie.Else3 → tie.Start
+abbrev start : tie.Else-wh-n → tie.Start
 start c = c.before.before.before.before.before.before.before.before.before
 
-long : (c : tie.Else3) → Long (days (lent (start c))) (given (start c))
-long c = record { from = c.before.before.if1.false; to = c.before.if2.false; wh = c.if3.false }
+long : (c : tie.Else-wh-n) → Long (days (lent (start c))) (given (start c))
+long c = record { from = c.before.before.if-from-n.false; to = c.before.if-to-n.false; wh = c.if-wh-n.false }
 
-sound : (c : tie.Else5) → Checked (lent (start c.before.before.before))
-sound c = checked _ _ c.before.before.check.ensures.0.answers c.if5.false
+sound : (c : tie.Else-refused-ne0) → Checked (lent (start c.before.before.before))
+sound c = checked _ _ c.before.before.check-refused.ensures.0.answers c.if-refused-ne0.false
 
-abbrev clear : (c : tie.After-count-readings) → tie.Else5
+abbrev clear : (c : tie.After-count_readings) → tie.Else-refused-ne0
 clear c = c.before.before.before.before.before.before.before.before.before.before.before.before.before
 
-readings : (c : tie.After-count-readings) → c.count-readings.result ≡ how_many (shown (lent (start (clear c).before.before.before))).readings.at (suc (days (lent (start (clear c).before.before.before))))
-readings c = counted _ (sound (clear c)) _ c.count-readings.ensures
+readings : (c : tie.After-count_readings) → c.count_readings.result ≡ how_many (shown (lent (start (clear c).before.before.before))).readings.at (suc (days (lent (start (clear c).before.before.before))))
+readings c = counted _ (sound (clear c)) _ c.count_readings.ensures
 
-cleared : (c : tie.After-count-readings) →
-    outputs c.before.before.before.before.before.before.before.before.before.before.before.clear-u16.new.0 c.before.before.before.before.before.before.before.clear-u162.new.0 c.before.before.before.clear-u64.new.0 ≡ zeroed (given (start (clear c).before.before.before))
-cleared c = outputs_same c.before.before.before.before.before.before.before.before.before.before.before.clear-u16.ensures c.before.before.before.before.before.before.before.clear-u162.ensures c.before.before.before.clear-u64.ensures
+cleared : (c : tie.After-count_readings) →
+    outputs c.before.before.before.before.before.before.before.before.before.before.before.clear_u16.new.shorts c.before.before.before.before.before.before.before.clear_u16-2.new.shorts c.before.before.before.clear_u64.new.longs ≡ zeroed (given (start (clear c).before.before.before))
+cleared c = outputs_same c.before.before.before.before.before.before.before.before.before.before.before.clear_u16.ensures c.before.before.before.before.before.before.before.clear_u16-2.ensures c.before.before.before.clear_u64.ensures
 
-returns : tie.Need-returns
-returns c = met_from _ _ c.if1.true
+returns : tie.Need-returns-then-from-n
+returns c = met_from _ _ c.if-from-n.true
 
-returns_2 : tie.Need-returns-2
-returns_2 c = met_to _ _ c.before.if1.false c.if2.true
+returns_2 : tie.Need-returns-then-to-n
+returns_2 c = met_to _ _ c.before.if-from-n.false c.if-to-n.true
 
-returns-3 : tie.Need-returns-3
-returns-3 c = met_wh _ _ c.before.before.if1.false c.before.if2.false c.if3.true
+returns-3 : tie.Need-returns-then-wh-n
+returns-3 c = met_wh _ _ c.before.before.if-from-n.false c.before.if-to-n.false c.if-wh-n.true
 
-check-requires : tie.Need-check-requires
+check-requires : tie.Need-check-refused-requires
 check-requires c κs = tt
 
-returns-4 : tie.Need-returns-4
-returns-4 c = met_account _ _ _ (long c.before.before) c.before.check.ensures.0.answers c.if4.true
+returns-4 : tie.Need-returns-then-refused-eq3
+returns-4 c = met_account _ _ _ (long c.before.before) c.before.check-refused.ensures.0.answers c.if-refused-eq3.true
 
-returns-5 : tie.Need-returns-5
-returns-5 c = met_unsound _ _ _ (long c.before.before.before) c.before.before.check.ensures.0.answers c.before.if4.false c.if5.true
+returns-5 : tie.Need-returns-then-refused-ne0
+returns-5 c = met_unsound _ _ _ (long c.before.before.before) c.before.before.check-refused.ensures.0.answers c.before.if-refused-eq3.false c.if-refused-ne0.true
 
-clear-u16-requires : tie.Need-clear-u16-requires
+clear-u16-requires : tie.Need-clear_u16-requires
 clear-u16-requires c κs = tt
 
-clear-u16-requires-2 : tie.Need-clear-u16-requires-2
+clear-u16-requires-2 : tie.Need-clear_u16-requires-2
 clear-u16-requires-2 c κs = tt
 
-clear-u64-requires : tie.Need-clear-u64-requires
+clear-u64-requires : tie.Need-clear_u64-requires
 clear-u64-requires c κs = tt
 
-count-readings-requires : tie.Need-count-readings-requires
+count-readings-requires : tie.Need-count_readings-requires
 count-readings-requires c κs = tt
 
-same_length : tie.Need-same-length
-same_length c = c.before.before.before.before.before.before.before.before.before.before.before.before.clear-u16.auto.0
+same_length : tie.Need-shape_of-from-then-count_readings-lt2
+same_length c = c.before.before.before.before.before.before.before.before.before.before.before.before.clear_u16.auto.shorts
 
-same_length_2 : tie.Need-same-length-2
-same_length_2 c = c.before.before.before.before.before.before.before.before.clear-u162.auto.0
+same_length_2 : tie.Need-shape_of-to-then-count_readings-lt2
+same_length_2 c = c.before.before.before.before.before.before.before.before.clear_u16-2.auto.shorts
 
-same-length-3 : tie.Need-same-length-3
-same-length-3 c = c.before.before.before.before.clear-u64.auto.0
+same-length-3 : tie.Need-shape_of-wh-then-count_readings-lt2
+same-length-3 c = c.before.before.before.before.clear_u64.auto.longs
 
-returns-6 : tie.Need-returns-6
+returns-6 : tie.Need-returns-then-count_readings-lt2
 returns-6 c =
     let at = c.before in
     met_few _ _ (long (clear at).before.before.before) (sound (clear at)) (omega (arith, readings at)) _ (cleared at)
 
-fill-requires : tie.Need-fill-requires
+fill-requires : tie.Need-fill-parts-requires
 fill-requires c κs =
     let at = c.before.before.before.before in
     ready _ _ (long (clear at).before.before.before) (sound (clear at)) (omega (arith, readings at)) _ (cleared at)
 
-same-length-4 : tie.Need-same-length-4
+same-length-4 : tie.Need-shape_of-from
 same-length-4 c =
     let call = c.before.before.before.before.before.before in
     let at = call.before.before.before.before.before in
-    call.fill.auto.1.1.1.0 ∙ at.before.before.before.before.before.before.before.before.before.before.before.clear-u16.auto.0
+    call.fill-parts.auto.from ∙ at.before.before.before.before.before.before.before.before.before.before.before.clear_u16.auto.shorts
 
-same-length-5 : tie.Need-same-length-5
+same-length-5 : tie.Need-shape_of-to
 same-length-5 c =
     let call = c.before.before.before.before.before.before in
     let at = call.before.before.before.before.before in
-    call.fill.auto.1.1.1.1.0 ∙ at.before.before.before.before.before.before.before.clear-u162.auto.0
+    call.fill-parts.auto.to ∙ at.before.before.before.before.before.before.before.clear_u16-2.auto.shorts
 
-same-length-6 : tie.Need-same-length-6
+same-length-6 : tie.Need-shape_of-wh
 same-length-6 c =
     let call = c.before.before.before.before.before.before in
     let at = call.before.before.before.before.before in
-    call.fill.auto.1.1.1.1.1.0 ∙ at.before.before.before.clear-u64.auto.0
+    call.fill-parts.auto.wh ∙ at.before.before.before.clear_u64.auto.longs
 
-returns-7 : tie.Need-returns-7
+returns-7 : tie.Need-returns
 returns-7 c =
     let call = c.before.before.before.before.before.before in
     let at = call.before.before.before.before.before in
-    met_parts _ _ (long (clear at).before.before.before) (sound (clear at)) (omega (arith, readings at)) _ _ call.fill.ensures
+    met_parts _ _ (long (clear at).before.before.before) (sound (clear at)) (omega (arith, readings at)) _ _ call.fill-parts.ensures
 
 pub statement_spec : {M : Type 1} → statement M
 statement_spec =

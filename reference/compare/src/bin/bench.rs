@@ -253,7 +253,7 @@ fn growth(what: &str, all: usize, runner: impl Fn(usize, usize) -> Runner<'stati
 }
 
 fn main() {
-    let program = std::env::args().nth(1).unwrap_or("target/bin/arvadush".to_string());
+    let program = std::env::args().nth(1).unwrap_or("crates/arvadush/out/arvadush".to_string());
     println!("| microseconds, medians of {ROUNDS} rounds | (a) | (b) | proved | proved/(a) | proved/(b) |");
     println!("|---|---|---|---|---|---|");
     for profile in 0..10 {

@@ -11,41 +11,41 @@ use Rattle.common.proofs.Below.{some_zero, some_none, first_at, first_none}
 use Rattle.account.proofs.marks.first_reading.Statement.{statement}
 use Rattle.account.proofs.marks.first_reading.Tie as tie
 
-abbrev invariant-loop : tie.invariant-loop
+abbrev invariant-loop : tie.invariant-loop-k
 invariant-loop marks k₀ k = (k ≤ length marks) × (somewhere (λ j. marks_reading (get_or marks j 0)) k ≡ false)
 
-abbrev decreases-loop : tie.decreases-loop
+abbrev decreases-loop : tie.decreases-loop-k
 decreases-loop marks k₀ k = length marks - k
 
-loop-holds : tie.Need-loop-init invariant-loop decreases-loop
+loop-holds : tie.Need-loop-k-init invariant-loop decreases-loop
 loop-holds c = (omega arith, some_zero _)
 
-shared-slice-read-is-reading : tie.Need-shared-slice-read-is-reading invariant-loop decreases-loop
+shared-slice-read-is-reading : tie.Need-bounds-marks-k invariant-loop decreases-loop
 shared-slice-read-is-reading c = omega arith
 
-is-reading-requires : tie.Need-is-reading-requires invariant-loop decreases-loop
+is-reading-requires : tie.Need-is_reading-requires invariant-loop decreases-loop
 is-reading-requires c κs = tt
 
-returns : tie.Need-returns invariant-loop decreases-loop
+returns : tie.Need-returns-then-is_reading invariant-loop decreases-loop
 returns c =
     let here = c.before.before.before.before in
-    sym (first_at _ _ _ c.before.before.before.loop-test.true here.loop.invariant.1 (sym c.before.is-reading.ensures ∙ c.if1.true))
+    sym (first_at _ _ _ c.before.before.before.loop-k-test.true here.loop-k.invariant.1 (sym c.before.is_reading.ensures ∙ c.if-is_reading.true))
 
-add-k : tie.Need-overflow-add-k invariant-loop decreases-loop
+add-k : tie.Need-overflow_add-k invariant-loop decreases-loop
 add-k c = omega arith
 
-loop-less : tie.Need-loop-smaller invariant-loop decreases-loop
+loop-less : tie.Need-loop-k-smaller invariant-loop decreases-loop
 loop-less c = omega arith
 
-loop-again : tie.Need-loop-preserved invariant-loop decreases-loop
+loop-again : tie.Need-loop-k-preserved invariant-loop decreases-loop
 loop-again c =
     let here = c.before.before.before.before in
-    (omega arith, rw add-one (some_none _ _ here.loop.invariant.1 (sym c.before.is-reading.ensures ∙ c.if1.false)))
+    (omega arith, rw add-one (some_none _ _ here.loop-k.invariant.1 (sym c.before.is_reading.ensures ∙ c.if-is_reading.false)))
 
-returns_2 : tie.Need-returns-2 invariant-loop decreases-loop
+returns_2 : tie.Need-returns invariant-loop decreases-loop
 returns_2 c =
-    let end : c.before.loop.k ≡ length c.before.before.before.args.marks.now = omega arith in
-    end ∙ sym (first_none _ _ (rw end at c.before.loop.invariant.1))
+    let end : c.before.loop-k.k ≡ length c.before.before.before.args.marks.now = omega arith in
+    end ∙ sym (first_none _ _ (rw end at c.before.loop-k.invariant.1))
 
 pub first_reading_spec : {M : Type 1} → statement M
 first_reading_spec =

@@ -4,16 +4,16 @@ use Rattle.account.proofs.LastLessFirst.{last_less_first_is}
 use Rattle.account.proofs.marks.last_less_first.Statement.{statement}
 use Rattle.account.proofs.marks.last_less_first.Tie as tie
 
-last-reading-requires : tie.Need-last-reading-requires
+last-reading-requires : tie.Need-last_reading-requires
 last-reading-requires c κs = tt
 
-count-at-requires : tie.Need-count-at-requires
+count-at-requires : tie.Need-count_at-last-requires
 count-at-requires c κs = tt
 
-first-reading-requires : tie.Need-first-reading-requires
+first-reading-requires : tie.Need-first_reading-requires
 first-reading-requires c κs = tt
 
-count-at-requires-2 : tie.Need-count-at-requires-2
+count-at-requires-2 : tie.Need-count_at-first-requires
 count-at-requires-2 c κs = tt
 
 less-requires : tie.Need-less-requires
@@ -23,10 +23,10 @@ returns : tie.Need-returns
 returns c n e =
     let a = c.before.before.before.before.before.before.before.args in
     last_less_first_is n (readings_in a.marks.now a.counts.now) e
-    c.before.before.before.before.last-reading.ensures
-    c.before.before.before.count_at.ensures
-    c.before.before.first-reading.ensures
-    c.before.count-at2.ensures
+    c.before.before.before.before.last_reading.ensures
+    c.before.before.before.count_at-last.ensures
+    c.before.before.first_reading.ensures
+    c.before.count_at-first.ensures
     c.less.ensures
 
 pub last_less_first_spec : {M : Type 1} → statement M

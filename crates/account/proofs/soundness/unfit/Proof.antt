@@ -23,23 +23,23 @@ module _ (n m c : ℕ) where
   counts_left : 1 ≤ n → n ≤ span_most → m ≡ n + 1 → not (eqb c (n + 1)) ≡ unfit_lengths n m c
   counts_left l h e = rw (le-leb 1 n l, le-leb n span_most h, eq-eqb m (n + 1) e)
 
-returns : tie.Need-returns
-returns c = short _ _ _ c.if1.true
+returns : tie.Need-returns-then-n-lt-SPAN_LEAST
+returns c = short _ _ _ c.if-n-lt-SPAN_LEAST.true
 
-returns_2 : tie.Need-returns-2
-returns_2 c = long _ _ _ c.before.if1.false c.if2.true
+returns_2 : tie.Need-returns-then-n-gt-SPAN_MOST
+returns_2 c = long _ _ _ c.before.if-n-lt-SPAN_LEAST.false c.if-n-gt-SPAN_MOST.true
 
-add-if3 : tie.Need-overflow-add-if3
+add-if3 : tie.Need-overflow_add-n
 add-if3 c = search rules
 
-returns-3 : tie.Need-returns-3
-returns-3 c = marks_off _ _ _ c.before.before.if1.false c.before.if2.false c.if3.true
+returns-3 : tie.Need-returns-then-marks-n
+returns-3 c = marks_off _ _ _ c.before.before.if-n-lt-SPAN_LEAST.false c.before.if-n-gt-SPAN_MOST.false c.if-marks-n.true
 
-add-result : tie.Need-overflow-add-result
+add-result : tie.Need-overflow_add-result
 add-result c = search rules
 
-returns-4 : tie.Need-returns-4
-returns-4 c = counts_left _ _ _ c.before.before.if1.false c.before.if2.false c.if3.false
+returns-4 : tie.Need-returns
+returns-4 c = counts_left _ _ _ c.before.before.if-n-lt-SPAN_LEAST.false c.before.if-n-gt-SPAN_MOST.false c.if-marks-n.false
 
 pub unfit_spec : {M : Type 1} → statement M
 unfit_spec = tie.close (tie.spec returns returns_2 add-if3 returns-3 add-result returns-4)

@@ -5,16 +5,16 @@ use Rattle.account.proofs.Rows.{boundary_next}
 use Rattle.account.proofs.table.cut_answer.Statement.{statement}
 use Rattle.account.proofs.table.cut_answer.Tie as tie
 
-boundary-answer-requires : tie.Need-boundary-answer-requires
+boundary-answer-requires : tie.Need-boundary_answer-answer-requires
 boundary-answer-requires c κs = tt
 
-mark-at-requires : tie.Need-mark-at-requires
+mark-at-requires : tie.Need-mark_at-requires
 mark-at-requires c κs = tt
 
-is-cut-requires : tie.Need-is-cut-requires
+is-cut-requires : tie.Need-is_cut-requires
 is-cut-requires c κs = tt
 
-next-row-requires : tie.Need-next-row-requires
+next-row-requires : tie.Need-next_row-requires
 next-row-requires c κs = tt
 
 returns : tie.Need-returns
@@ -22,8 +22,8 @@ returns c =
     let a = c.before.before.before.before.before.before.before.args in
     boundary_next (account a.weights.now a.marks.now a.counts.now) a.k _ _ 7 _ _
     c.next_row.ensures
-    c.before.before.before.boundary-answer.ensures
-    (c.before.is_cut.ensures ∙ ap marks_cut c.before.before.mark-at.ensures)
+    c.before.before.before.boundary_answer-answer.ensures
+    (c.before.is_cut.ensures ∙ ap marks_cut c.before.before.mark_at.ensures)
 
 pub cut_answer_spec : {M : Type 1} → statement M
 cut_answer_spec =

@@ -3,7 +3,7 @@ use Prim.Native.Nat.{ℕ, ◌≤◌, ◌<◌}
 use native.Mathlib.Nat.{le_of_lt}
 use mathlib.Core.Path.{◌≡◌, sym, ◌∙◌}
 use mathlib.Core.Bool.{Bool, true, false, ◌&&◌, ◌||◌, or-false, and-false}
-use borrow.Author.Tests.{lt-ltb, le-ltb, not-true, not-false}
+use borrow.Author.Tests.{lt-ltb, le-ltb}
 use lib.Dec.{ltb}
 use Rattle.account.specs.Account.{marks_reading}
 use Rattle.account.proofs.table.disagrees.Statement.{statement}
@@ -25,28 +25,28 @@ module _ (m c j k v : ℕ) where
   itself : k ≤ j → j ≤ k → false ≡ either m c j k v
   itself l g = rw (le-ltb j k l, le-ltb k j g)
 
-is-reading-requires : tie.Need-is-reading-requires
+is-reading-requires : tie.Need-is_reading-requires
 is-reading-requires c κs = tt
 
-returns : tie.Need-returns
+returns : tie.Need-returns-then-not-is_reading
 returns c =
     let a = c.before.before.args in
-    no_reading a.m a.c a.j a.k a.v (sym c.before.is-reading.ensures ∙ not-true _ c.if1.true)
+    no_reading a.m a.c a.j a.k a.v (sym c.before.is_reading.ensures ∙ c.if-not-is_reading.true)
 
-returns_2 : tie.Need-returns-2
+returns_2 : tie.Need-returns-then-j-k
 returns_2 c =
     let a = c.before.before.before.args in
-    earlier a.m a.c a.j a.k a.v (sym c.before.before.is-reading.ensures ∙ not-false _ c.before.if1.false) c.if2.true
+    earlier a.m a.c a.j a.k a.v (sym c.before.before.is_reading.ensures ∙ c.before.if-not-is_reading.false) c.if-j-k.true
 
-returns-3 : tie.Need-returns-3
+returns-3 : tie.Need-returns-then-k-j
 returns-3 c =
     let a = c.before.before.before.before.args in
-    later a.m a.c a.j a.k a.v (sym c.before.before.before.is-reading.ensures ∙ not-false _ c.before.before.if1.false) c.if3.true
+    later a.m a.c a.j a.k a.v (sym c.before.before.before.is_reading.ensures ∙ c.before.before.if-not-is_reading.false) c.if-k-j.true
 
-returns-4 : tie.Need-returns-4
+returns-4 : tie.Need-returns
 returns-4 c =
     let a = c.before.before.before.before.args in
-    itself a.m a.c a.j a.k a.v c.before.if2.false c.if3.false
+    itself a.m a.c a.j a.k a.v c.before.if-j-k.false c.if-k-j.false
 
 pub disagrees_spec : {M : Type 1} → statement M
 disagrees_spec = tie.close (tie.spec is-reading-requires returns returns_2 returns-3 returns-4)

@@ -39,45 +39,45 @@ module _ (r : Readings) (k v : ℕ) where
       go false true f g e = rw (some_at (above_later r k v) (suc n) j l g) (sym (or-true (somewhere (below_earlier r k v) (suc n))))
       go false false f g e = cc
 
-abbrev invariant-loop : tie.invariant-loop
+abbrev invariant-loop : tie.invariant-loop-j
 invariant-loop weights marks counts k v j₀ j = (j ≤ length weights + 1) × Agree (shown (account weights marks counts)).readings k v j
 
-abbrev decreases-loop : tie.decreases-loop
+abbrev decreases-loop : tie.decreases-loop-j
 decreases-loop weights marks counts k v j₀ j = length weights + 1 - j
 
-loop-holds : tie.Need-loop-init invariant-loop decreases-loop
+loop-holds : tie.Need-loop-j-init invariant-loop decreases-loop
 loop-holds c = (omega arith, agree_none _ _ _)
 
-shared-slice-read-disagrees : tie.Need-shared-slice-read-disagrees invariant-loop decreases-loop
+shared-slice-read-disagrees : tie.Need-bounds-marks-j invariant-loop decreases-loop
 shared-slice-read-disagrees c = omega arith
 
-mul-disagrees : tie.Need-overflow-mul-disagrees invariant-loop decreases-loop
+mul-disagrees : tie.Need-offset_bounds-counts-j invariant-loop decreases-loop
 mul-disagrees c = omega arith
 
-shared-slice-read-disagrees-2 : tie.Need-shared-slice-read-disagrees-2 invariant-loop decreases-loop
+shared-slice-read-disagrees-2 : tie.Need-bounds-counts-j invariant-loop decreases-loop
 shared-slice-read-disagrees-2 c = omega arith
 
 disagrees-requires : tie.Need-disagrees-requires invariant-loop decreases-loop
 disagrees-requires c κs = tt
 
-returns : tie.Need-returns invariant-loop decreases-loop
-returns c = found _ _ _ _ _ (omega arith) (sym c.before.disagrees.ensures ∙ c.if1.true)
+returns : tie.Need-returns-then-disagrees invariant-loop decreases-loop
+returns c = found _ _ _ _ _ (omega arith) (sym c.before.disagrees.ensures ∙ c.if-disagrees.true)
 
-add-j : tie.Need-overflow-add-j invariant-loop decreases-loop
+add-j : tie.Need-overflow_add-j invariant-loop decreases-loop
 add-j c = omega arith
 
-loop-less : tie.Need-loop-smaller invariant-loop decreases-loop
+loop-less : tie.Need-loop-j-smaller invariant-loop decreases-loop
 loop-less c = omega arith
 
-loop-again : tie.Need-loop-preserved invariant-loop decreases-loop
+loop-again : tie.Need-loop-j-preserved invariant-loop decreases-loop
 loop-again c =
     let here = c.before.before.before.before.before in
-    (omega arith, rw add-one (agree_more _ _ _ _ here.loop.invariant.1 (sym c.before.disagrees.ensures ∙ c.if1.false)))
+    (omega arith, rw add-one (agree_more _ _ _ _ here.loop-j.invariant.1 (sym c.before.disagrees.ensures ∙ c.if-disagrees.false)))
 
-returns_2 : tie.Need-returns-2 invariant-loop decreases-loop
+returns_2 : tie.Need-returns invariant-loop decreases-loop
 returns_2 c =
-    let end : c.before.loop.j ≡ suc (length c.before.before.before.before.before.args.weights.now) = omega arith in
-    agree_all _ _ _ _ (rw end at c.before.loop.invariant.1)
+    let end : c.before.loop-j.j ≡ suc (length c.before.before.before.before.before.args.weights.now) = omega arith in
+    agree_all _ _ _ _ (rw end at c.before.loop-j.invariant.1)
 
 pub out_of_order_spec : {M : Type 1} → statement M
 out_of_order_spec =

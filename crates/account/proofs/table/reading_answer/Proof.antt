@@ -37,69 +37,69 @@ abbrev lent : tie.Start → Account
 lent c = account c.args.weights.now c.args.marks.now c.args.counts.now
 
 -- what is known after each test that was not taken
-allows : (c : tie.Else1) → Allowed (lent c.before.before.before.before.before.before) c.before.before.before.before.before.before.args.k
+allows : (c : tie.Else-number_of-ne0) → Allowed (lent c.before.before.before.before.before.before) c.before.before.before.before.before.before.args.k
 allows c =
     allowed (lent c.before.before.before.before.before.before) _ 0
-    (sym c.before.before.boundary-answer.ensures ∙ sym c.before.number_of.ensures ∙ c.if1.false)
+    (sym c.before.before.boundary_answer-answer.ensures ∙ sym c.before.number_of.ensures ∙ c.if-number_of-ne0.false)
 
-free : (c : tie.Else2) → reads_at (lent c.before.before.before.before.before.before.before.before.before).marks c.before.before.before.before.before.before.before.before.before.args.k ≡ false
-free c = sym (c.before.is-reading.ensures ∙ ap marks_reading c.before.before.mark-at.ensures) ∙ c.if2.false
+free : (c : tie.Else-is_reading) → reads_at (lent c.before.before.before.before.before.before.before.before.before).marks c.before.before.before.before.before.before.before.before.before.args.k ≡ false
+free c = sym (c.before.is_reading.ensures ∙ ap marks_reading c.before.before.mark_at.ensures) ∙ c.if-is_reading.false
 
-boundary-answer-requires : tie.Need-boundary-answer-requires
+boundary-answer-requires : tie.Need-boundary_answer-answer-requires
 boundary-answer-requires c κs = tt
 
-number-of-requires : tie.Need-number-of-requires
+number-of-requires : tie.Need-number_of-requires
 number-of-requires c κs = tt
 
-returns : tie.Need-returns
+returns : tie.Need-returns-then-number_of-ne0
 returns c =
     boundary_refuses (lent c.before.before.before.before.before.before) _ _ _
-    c.before.before.boundary-answer.ensures
-    (λ e. c.if1.true (c.before.number_of.ensures ∙ e))
+    c.before.before.boundary_answer-answer.ensures
+    (λ e. c.if-number_of-ne0.true (c.before.number_of.ensures ∙ e))
 
-mark-at-requires : tie.Need-mark-at-requires
+mark-at-requires : tie.Need-mark_at-requires
 mark-at-requires c κs = tt
 
-is-reading-requires : tie.Need-is-reading-requires
+is-reading-requires : tie.Need-is_reading-requires
 is-reading-requires c κs = tt
 
-returns_2 : tie.Need-returns-2
+returns_2 : tie.Need-returns-then-is_reading
 returns_2 c =
     seven (lent c.before.before.before.before.before.before.before.before.before) _ _ (allows c.before.before.before)
-    (sym (c.before.is-reading.ensures ∙ ap marks_reading c.before.before.mark-at.ensures) ∙ c.if2.true)
+    (sym (c.before.is_reading.ensures ∙ ap marks_reading c.before.before.mark_at.ensures) ∙ c.if-is_reading.true)
 
-out-of-order-requires : tie.Need-out-of-order-requires
+out-of-order-requires : tie.Need-out_of_order-requires
 out-of-order-requires c κs = (allows c.before.before.before).fit
 
-returns-3 : tie.Need-returns-3
+returns-3 : tie.Need-returns-then-out_of_order
 returns-3 c =
     eight (lent c.before.before.before.before.before.before.before.before.before.before.before) _ _
     (allows c.before.before.before.before.before)
     (free c.before.before)
-    (sym c.before.out_of_order.ensures ∙ c.if3.true)
+    (sym c.before.out_of_order.ensures ∙ c.if-out_of_order.true)
 
-last-less-first-with-requires : tie.Need-last-less-first-with-requires
+last-less-first-with-requires : tie.Need-last_less_first_with-requires
 last-less-first-with-requires c κs = let h = allows c.before.before.before.before.before in omega arith
 
-returns-4 : tie.Need-returns-4
+returns-4 : tie.Need-returns-then-last_less_first_with-gt-ENERGY_MOST
 returns-4 c =
     nine (lent c.before.before.before.before.before.before.before.before.before.before.before.before.before) _ _
     (allows c.before.before.before.before.before.before.before)
     (free c.before.before.before.before)
-    (sym c.before.before.before.out_of_order.ensures ∙ c.before.before.if3.false)
+    (sym c.before.before.before.out_of_order.ensures ∙ c.before.before.if-out_of_order.false)
     _
-    (c.before.last-less-first-with.ensures _ ((allows c.before.before.before.before.before.before.before).fit.marks ∙ add-one _))
-    c.if4.true
+    (c.before.last_less_first_with.ensures _ ((allows c.before.before.before.before.before.before.before).fit.marks ∙ add-one _))
+    c.if-last_less_first_with-gt-ENERGY_MOST.true
 
-returns-5 : tie.Need-returns-5
+returns-5 : tie.Need-returns
 returns-5 c =
     none (lent c.before.before.before.before.before.before.before.before.before.before.before.before.before) _ _
     (allows c.before.before.before.before.before.before.before)
     (free c.before.before.before.before)
-    (sym c.before.before.before.out_of_order.ensures ∙ c.before.before.if3.false)
+    (sym c.before.before.before.out_of_order.ensures ∙ c.before.before.if-out_of_order.false)
     _
-    (c.before.last-less-first-with.ensures _ ((allows c.before.before.before.before.before.before.before).fit.marks ∙ add-one _))
-    c.if4.false
+    (c.before.last_less_first_with.ensures _ ((allows c.before.before.before.before.before.before.before).fit.marks ∙ add-one _))
+    c.if-last_less_first_with-gt-ENERGY_MOST.false
 
 pub reading_answer_spec : {M : Type 1} → statement M
 reading_answer_spec =

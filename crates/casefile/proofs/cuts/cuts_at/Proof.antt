@@ -11,40 +11,40 @@ use Rattle.casefile.proofs.cuts.cuts_at.Tie as tie
 refused-requires : tie.Need-refused-requires
 refused-requires c κs = search rules
 
-returns : tie.Need-returns
-returns c = record { reached = told_again _ c.before.if1.true c.refused.ensures; puts = λ z. absurd (met (omega (arith, c.before.if1.true)) c.refused.ensures z) }
+returns : tie.Need-returns-then-number-ne0
+returns c = record { reached = told_again _ c.before.if-number-ne0.true c.refused.ensures; puts = λ z. absurd (met (omega (arith, c.before.if-number-ne0.true)) c.refused.ensures z) }
 
-add-if2 : tie.Need-overflow-add-if2
-add-if2 c = omega (arith, c.before.before.before.requires.0.near c.if1.false)
+add-if2 : tie.Need-overflow_add-at
+add-if2 c = omega (arith, c.before.before.before.requires.0.near c.if-number-ne0.false)
 
-refused-requires-2 : tie.Need-refused-requires-2
+refused-requires-2 : tie.Need-refused-requires-then-file-at
 refused-requires-2 c κs = search rules
 
-returns_2 : tie.Need-returns-2
+returns_2 : tie.Need-returns-then-file-at
 returns_2 c =
     let a = c.before.before.before.before.before.args in
     record {
-      reached = section_early a.file.now a.at (cut_fault_at a.file.now a.at a.days) c.before.before.if1.false c.refused2.ensures c.before.if2.true;
-      puts = λ z. absurd (met (lit< tt) c.refused2.ensures z);
+      reached = section_early a.file.now a.at (cut_fault_at a.file.now a.at a.days) c.before.before.if-number-ne0.false c.refused-then-file-at.ensures c.before.if-file-at.true;
+      puts = λ z. absurd (met (lit< tt) c.refused-then-file-at.ensures z);
     }
 
-number16-requires : tie.Need-number16-requires
+number16-requires : tie.Need-number16-count-requires
 number16-requires c κs = search rules
 
-each-cut-requires : tie.Need-each-cut-requires
+each-cut-requires : tie.Need-each_cut-requires
 each-cut-requires c κs =
     let p = c.before.before.before.before.before.before.requires in
-    (items_asked p.0 c.before.before.before.if1.false c.before.before.if2.false c.before.number16.ensures, p.1)
+    (items_asked p.0 c.before.before.before.if-number-ne0.false c.before.before.if-file-at.false c.before.number16-count.ensures, p.1)
 
-same_length : tie.Need-same-length
+same_length : tie.Need-shape_of-marks
 same_length c = search rules
 
-returns-3 : tie.Need-returns-3
+returns-3 : tie.Need-returns
 returns-3 c =
     let a = c.before.before.before.before.before.before.before.before.before.args in
-    let met = c.before.before.each-cut.ensures in
+    let met = c.before.before.each_cut.ensures in
     record {
-      reached = section_read a.file.now a.at (cut_fault_at a.file.now a.at a.days) c.before.before.before.before.before.before.if1.false c.before.before.before.before.before.if2.false met.reached;
+      reached = section_read a.file.now a.at (cut_fault_at a.file.now a.at a.days) c.before.before.before.before.before.before.if-number-ne0.false c.before.before.before.before.before.if-file-at.false met.reached;
       puts = met.puts;
     }
 

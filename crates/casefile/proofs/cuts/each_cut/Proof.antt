@@ -12,115 +12,115 @@ use Rattle.casefile.proofs.Marked.{CutsRead, cuts_none, cut_early, cut_falls, cu
 use Rattle.casefile.proofs.cuts.each_cut.Statement.{statement}
 use Rattle.casefile.proofs.cuts.each_cut.Tie as tie
 
-abbrev invariant-loop : tie.invariant-loop
+abbrev invariant-loop : tie.invariant-loop-i
 invariant-loop file at count days marks₀ low₀ i₀ marks low i = (i ≤ count) × (length marks ≡ length marks₀) × CutsRead file at days marks₀ marks low i
 
-abbrev decreases-loop : tie.decreases-loop
+abbrev decreases-loop : tie.decreases-loop-i
 decreases-loop file at count days marks₀ low₀ i₀ marks low i = count - i
 
-loop-holds : tie.Need-loop-init invariant-loop decreases-loop
+loop-holds : tie.Need-loop-i-init invariant-loop decreases-loop
 loop-holds c = (omega arith, refl, cuts_none _ _ _ _)
 
-add-place : tie.Need-overflow-add-place invariant-loop decreases-loop
+add-place : tie.Need-overflow_add-place invariant-loop decreases-loop
 add-place c = omega arith
 
-mul-place : tie.Need-overflow-mul-place invariant-loop decreases-loop
+mul-place : tie.Need-overflow_mul-place invariant-loop decreases-loop
 mul-place c = omega arith
 
-add-place-2 : tie.Need-overflow-add-place-2 invariant-loop decreases-loop
+add-place-2 : tie.Need-overflow_add-place-in-loop-i invariant-loop decreases-loop
 add-place-2 c = omega arith
 
-add-if1 : tie.Need-overflow-add-if1 invariant-loop decreases-loop
+add-if1 : tie.Need-overflow_add-place-in-loop-i-2 invariant-loop decreases-loop
 add-if1 c = omega arith
 
 refused-requires : tie.Need-refused-requires invariant-loop decreases-loop
 refused-requires c κs = search rules
 
-same_length : tie.Need-same-length invariant-loop decreases-loop
+same_length : tie.Need-shape_of-marks-then-file-place invariant-loop decreases-loop
 same_length c = search rules
 
-returns : tie.Need-returns invariant-loop decreases-loop
+returns : tie.Need-returns-then-file-place invariant-loop decreases-loop
 returns c =
     let a = c.before.before.before.before.before.before.args in
-    cut_stops c.before.before.before.loop.invariant.2 (omega arith) (lit< tt) c.refused.ensures (cut_early a.file.now a.at a.days c.before.before.before.loop.i c.before.if1.true)
+    cut_stops c.before.before.before.loop-i.invariant.2 (omega arith) (lit< tt) c.refused.ensures (cut_early a.file.now a.at a.days c.before.before.before.loop-i.i c.before.if-file-place.true)
 
-number16-requires : tie.Need-number16-requires invariant-loop decreases-loop
+number16-requires : tie.Need-number16-boundary-requires invariant-loop decreases-loop
 number16-requires c κs = omega arith
 
 -- the cut that was read is the definition's
-read : (c : tie.After-number16 invariant-loop decreases-loop) → c.number16.result ≡ boundary_at 2 c.before.before.before.before.before.before.args.file.now c.before.before.before.before.before.before.args.at c.before.before.before.loop.i
-read c = c.number16.ensures.0
+read : (c : tie.After-number16-boundary invariant-loop decreases-loop) → c.number16-boundary.result ≡ boundary_at 2 c.before.before.before.before.before.before.args.file.now c.before.before.before.before.before.before.args.at c.before.before.before.loop-i.i
+read c = c.number16-boundary.ensures.0
 
-refused-requires-2 : tie.Need-refused-requires-2 invariant-loop decreases-loop
+refused-requires-2 : tie.Need-refused-requires-then-boundary-low invariant-loop decreases-loop
 refused-requires-2 c κs = search rules
 
-same_length_2 : tie.Need-same-length-2 invariant-loop decreases-loop
+same_length_2 : tie.Need-shape_of-marks-then-boundary-low invariant-loop decreases-loop
 same_length_2 c = search rules
 
-returns_2 : tie.Need-returns-2 invariant-loop decreases-loop
+returns_2 : tie.Need-returns-then-boundary-low invariant-loop decreases-loop
 returns_2 c =
-    let r = c.before.before.before.before.before.loop.invariant.2 in
-    cut_stops r (omega arith) (lit< tt) c.refused2.ensures (cut_falls r c.before.before.before.if1.false (rw (read c.before.before) at c.before.if2.true))
+    let r = c.before.before.before.before.before.loop-i.invariant.2 in
+    cut_stops r (omega arith) (lit< tt) c.refused-then-boundary-low.ensures (cut_falls r c.before.before.before.if-file-place.false (rw (read c.before.before) at c.before.if-boundary-low.true))
 
-refused-requires-3 : tie.Need-refused-requires-3 invariant-loop decreases-loop
+refused-requires-3 : tie.Need-refused-requires-then-days-boundary invariant-loop decreases-loop
 refused-requires-3 c κs = search rules
 
-same-length-3 : tie.Need-same-length-3 invariant-loop decreases-loop
+same-length-3 : tie.Need-shape_of-marks-then-days-boundary invariant-loop decreases-loop
 same-length-3 c = search rules
 
-returns-3 : tie.Need-returns-3 invariant-loop decreases-loop
+returns-3 : tie.Need-returns-then-days-boundary invariant-loop decreases-loop
 returns-3 c =
-    let r = c.before.before.before.before.before.before.loop.invariant.2 in
+    let r = c.before.before.before.before.before.before.loop-i.invariant.2 in
     let b = read c.before.before.before in
-    cut_stops r (omega arith) (lit< tt) c.refused3.ensures (cut_outside r c.before.before.before.before.if1.false (rw b at c.before.before.if2.false) (rw b at c.before.if3.true))
+    cut_stops r (omega arith) (lit< tt) c.refused-then-days-boundary.ensures (cut_outside r c.before.before.before.before.if-file-place.false (rw b at c.before.before.if-boundary-low.false) (rw b at c.before.if-days-boundary.true))
 
-slice-read-with-cut : tie.Need-slice-read-with-cut invariant-loop decreases-loop
+slice-read-with-cut : tie.Need-bounds-marks-boundary invariant-loop decreases-loop
 slice-read-with-cut c = omega arith
 
-with-cut-requires : tie.Need-with-cut-requires invariant-loop decreases-loop
+with-cut-requires : tie.Need-with_cut-requires invariant-loop decreases-loop
 with-cut-requires c κs = search rules
 
-slice-write-marks : tie.Need-slice-write-marks invariant-loop decreases-loop
+slice-write-marks : tie.Need-bounds-marks-boundary-in-loop-i invariant-loop decreases-loop
 slice-write-marks c = omega arith
 
-add_low : tie.Need-overflow-add-low invariant-loop decreases-loop
+add_low : tie.Need-overflow_add-low invariant-loop decreases-loop
 add_low c = omega arith
 
-add-i : tie.Need-overflow-add-i invariant-loop decreases-loop
+add-i : tie.Need-overflow_add-i invariant-loop decreases-loop
 add-i c = omega arith
 
-loop-less : tie.Need-loop-smaller invariant-loop decreases-loop
+loop-less : tie.Need-loop-i-smaller invariant-loop decreases-loop
 loop-less c = omega arith
 
-loop-again : tie.Need-loop-preserved invariant-loop decreases-loop
+loop-again : tie.Need-loop-i-preserved invariant-loop decreases-loop
 loop-again c =
     let b = read c.before.before.before.before in (
       omega arith,
       simp length-set (omega arith),
-      rw (c.with-cut.ensures, b)
-          (cuts_more c.before.before.before.before.before.before.before.loop.invariant.2 c.before.before.before.before.before.if1.false (rw b at c.before.before.before.if2.false) (rw b at c.before.before.if3.false)),
+      rw (c.with_cut.ensures, b)
+          (cuts_more c.before.before.before.before.before.before.before.loop-i.invariant.2 c.before.before.before.before.before.if-file-place.false (rw b at c.before.before.before.if-boundary-low.false) (rw b at c.before.before.if-days-boundary.false)),
     )
 
-add-passed : tie.Need-overflow-add-passed invariant-loop decreases-loop
+add-passed : tie.Need-overflow_add-at invariant-loop decreases-loop
 add-passed c = omega arith
 
-mul-passed : tie.Need-overflow-mul-passed invariant-loop decreases-loop
+mul-passed : tie.Need-overflow_mul-count invariant-loop decreases-loop
 mul-passed c = omega arith
 
-add-passed-2 : tie.Need-overflow-add-passed-2 invariant-loop decreases-loop
+add-passed-2 : tie.Need-overflow_add-at-2 invariant-loop decreases-loop
 add-passed-2 c = omega arith
 
 passed-requires : tie.Need-passed-requires invariant-loop decreases-loop
 passed-requires c κs = search rules
 
-same-length-4 : tie.Need-same-length-4 invariant-loop decreases-loop
+same-length-4 : tie.Need-shape_of-marks invariant-loop decreases-loop
 same-length-4 c = search rules
 
-returns-4 : tie.Need-returns-4 invariant-loop decreases-loop
+returns-4 : tie.Need-returns invariant-loop decreases-loop
 returns-4 c =
     let a = c.before.before.before.before.before.args in
-    let e : c.before.before.loop.i ≡ number16 a.file.now a.at = omega arith in
-    let r = c.before.before.loop.invariant.2 in
+    let e : c.before.before.loop-i.i ≡ number16 a.file.now a.at = omega arith in
+    let r = c.before.before.loop-i.invariant.2 in
     record { reached = goes c.passed.ensures (rw (← e) (sym r.clean)) refl (ap (item_at 2 a.at) (omega arith)); puts = λ z. rw (← e) r.puts }
 
 pub each_cut_spec : {M : Type 1} → statement M

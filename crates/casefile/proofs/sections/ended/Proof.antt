@@ -10,25 +10,25 @@ use borrow.Author.Rules.{rules}
 use Rattle.casefile.proofs.sections.ended.Statement.{statement}
 use Rattle.casefile.proofs.sections.ended.Tie as tie
 
-returns : tie.Need-returns
+returns : tie.Need-returns-then-before-ne0
 returns c =
     let a = c.before.before.before.args in
-    stays a.before _ c.if1.true
+    stays a.before _ c.if-before-ne0.true
 
 refused-requires : tie.Need-refused-requires
 refused-requires c κs = search rules
 
-returns_2 : tie.Need-returns-2
+returns_2 : tie.Need-returns-then-before-file
 returns_2 c =
     let a = c.before.before.before.before.before.before.args in
     let s = a.file.now in
-    joins (left_over s a.before.place) a.before.number a.before.place c.before.before.before.if1.false (stops (lit< tt) c.refused.ensures (simp (lt-ltb a.before.place (length s) (omega arith))))
+    joins (left_over s a.before.place) a.before.number a.before.place c.before.before.before.if-before-ne0.false (stops (lit< tt) c.refused.ensures (simp (lt-ltb a.before.place (length s) (omega arith))))
 
-returns-3 : tie.Need-returns-3
+returns-3 : tie.Need-returns
 returns-3 c =
     let a = c.before.before.before.before.before.args in
     let s = a.file.now in
-    let z = c.before.before.if1.false in
+    let z = c.before.before.if-before-ne0.false in
     joins (left_over s a.before.place) a.before.number a.before.place z
     (record { tells = rw (z, le-ltb a.before.place (length s) (omega arith)) refl; days_are = λ _. refl; stands = λ _. refl })
 

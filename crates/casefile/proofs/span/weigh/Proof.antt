@@ -6,32 +6,32 @@ use Rattle.casefile.proofs.Weighing.{weighs}
 use Rattle.casefile.proofs.span.weigh.Statement.{statement}
 use Rattle.casefile.proofs.span.weigh.Tie as tie
 
-add-weights : tie.Need-overflow-add-weights
+add-weights : tie.Need-overflow_add-days
 add-weights c = search rules
 
-slice-aggregate-weights : tie.Need-slice-aggregate-weights
+slice-aggregate-weights : tie.Need-slice_bounds-weights-end
 slice-aggregate-weights c = simp length-take (omega arith)
 
-array-share-prefix-own : tie.Need-array-share-prefix-own
+array-share-prefix-own : tie.Need-slice_bounds-own-end
 array-share-prefix-own c = omega arith
 
-slice-aggregate-weights-2 : tie.Need-slice-aggregate-weights-2
+slice-aggregate-weights-2 : tie.Need-slice_bounds-weights-end-2
 slice-aggregate-weights-2 c = simp length-take (omega arith)
 
-slice-relend-prefix-weights : tie.Need-slice-relend-prefix-weights
+slice-relend-prefix-weights : tie.Need-slice_bounds-weights-end-3
 slice-relend-prefix-weights c = omega arith
 
-slice-aggregate-weights-3 : tie.Need-slice-aggregate-weights-3
+slice-aggregate-weights-3 : tie.Need-slice_bounds-weights-end-4
 slice-aggregate-weights-3 c = simp length-take (omega arith)
 
 weights-requires : tie.Need-weights-requires
 weights-requires c κs = search rules
 
-same_length : tie.Need-same-length
+same_length : tie.Need-shape_of-weights
 same_length c = search rules
 
 returns : tie.Need-returns
-returns c = weighs c.before.before.before.before.before.before.before.requires c.before.before.weights.ensures
+returns c = weighs c.before.before.before.before.before.before.requires c.before.before.weights.ensures
 
 pub weigh_spec : {M : Type 1} → statement M
 weigh_spec =

@@ -24,42 +24,42 @@ last : (out : List ℕ) (k width rest i : ℕ) → width ≤ i → sets out k (l
 unfolding little_bytes
 last out k width rest i h = let none : width - i ≡ 0 = omega arith in rw none
 
-abbrev invariant-loop : tie.invariant-loop
+abbrev invariant-loop : tie.invariant-loop-i
 invariant-loop out₀ at width n rest₀ i₀ out rest i =
     (i ≤ width) × (length out ≡ length out₀) × (sets out (at + i) (little_bytes (width - i) rest) ≡ sets out₀ at (little_bytes width n))
 
-abbrev decreases-loop : tie.decreases-loop
+abbrev decreases-loop : tie.decreases-loop-i
 decreases-loop out₀ at width n rest₀ i₀ out rest i = width - i
 
-loop-holds : tie.Need-loop-init invariant-loop decreases-loop
+loop-holds : tie.Need-loop-i-init invariant-loop decreases-loop
 loop-holds c = let all : c.args.width - 0 ≡ c.args.width = omega arith in (omega arith, refl, rw (add-zero, all))
 
-cast-out : tie.Need-overflow-cast-out invariant-loop decreases-loop
+cast-out : tie.Need-overflow_cast-out invariant-loop decreases-loop
 cast-out c = omega arith
 
-add-out : tie.Need-overflow-add-out invariant-loop decreases-loop
+add-out : tie.Need-overflow_add-out invariant-loop decreases-loop
 add-out c = omega arith
 
-slice-write-out : tie.Need-slice-write-out invariant-loop decreases-loop
+slice-write-out : tie.Need-bounds-out-at invariant-loop decreases-loop
 slice-write-out c = omega arith
 
-add-i : tie.Need-overflow-add-i invariant-loop decreases-loop
+add-i : tie.Need-overflow_add-i invariant-loop decreases-loop
 add-i c = omega arith
 
-loop-less : tie.Need-loop-smaller invariant-loop decreases-loop
+loop-less : tie.Need-loop-i-smaller invariant-loop decreases-loop
 loop-less c = omega arith
 
-loop-again : tie.Need-loop-preserved invariant-loop decreases-loop
+loop-again : tie.Need-loop-i-preserved invariant-loop decreases-loop
 loop-again c =
     let a = c.before.before.args in
-    let l = c.before.loop in
-    (omega arith, length-set l.out _ _ ∙ l.invariant.1, sym (step l.out a.at a.width l.rest l.i c.loop-test.true) ∙ l.invariant.2)
+    let l = c.before.loop-i in
+    (omega arith, length-set l.out _ _ ∙ l.invariant.1, sym (step l.out a.at a.width l.rest l.i c.loop-i-test.true) ∙ l.invariant.2)
 
-same_length : tie.Need-same-length invariant-loop decreases-loop
-same_length c = c.before.loop.invariant.1
+same_length : tie.Need-shape_of-out invariant-loop decreases-loop
+same_length c = c.before.loop-i.invariant.1
 
 returns : tie.Need-returns invariant-loop decreases-loop
-returns c = let l = c.before.loop in sym (last l.out _ _ l.rest _ c.loop-test.false) ∙ l.invariant.2
+returns c = let l = c.before.loop-i in sym (last l.out _ _ l.rest _ c.loop-i-test.false) ∙ l.invariant.2
 
 pub number_spec : {M : Type 1} → statement M
 number_spec =

@@ -23,28 +23,28 @@ not_below : (z : ℤ) → lt_z z (pos 0) ≡ false → (z ≡ pos (mag z)) × (t
 not_below (pos n) e = (refl, refl)
 not_below (negsuc n) e = absurd (clash refl e)
 
-negative : (c : tie.Then1) → let z = c.before.args.mean in (negsuc 0 -ℤ to_z w16 (of_z w16 z) ≡ pos (mag z)) × (twos z ≡ 65_535 - mag z)
-negative c = let same = to_z-of_z c.before.ranges.mean in rw same (below c.before.args.mean (rw same at c.if1.true))
+negative : (c : tie.Then-mean-lt0) → let z = c.before.args.mean in (negsuc 0 -ℤ to_z w16 (of_z w16 z) ≡ pos (mag z)) × (twos z ≡ 65_535 - mag z)
+negative c = let same = to_z-of_z c.before.ranges.mean in rw same (below c.before.args.mean (rw same at c.if-mean-lt0.true))
 
-natural : (c : tie.Else1) → let z = c.before.args.mean in (to_z w16 (of_z w16 z) ≡ pos (mag z)) × (twos z ≡ mag z)
-natural c = let same = to_z-of_z c.before.ranges.mean in rw same (not_below c.before.args.mean (rw same at c.if1.false))
+natural : (c : tie.Else-mean-lt0) → let z = c.before.args.mean in (to_z w16 (of_z w16 z) ≡ pos (mag z)) × (twos z ≡ mag z)
+natural c = let same = to_z-of_z c.before.ranges.mean in rw same (not_below c.before.args.mean (rw same at c.if-mean-lt0.false))
 
-sub-result : tie.Need-overflow-sub-result
+sub-result : tie.Need-overflow_sub-result
 sub-result c = rw (negative c).0 (record { sfits = c.before.ranges.mean.sfits })
 
-cast-result : tie.Need-overflow-cast-result
+cast-result : tie.Need-overflow_cast-result
 cast-result c = rw ((negative c).0, to_z_pos w16 {n = mag c.before.args.mean} c.before.ranges.mean.sfits) (tt, record { fits = omega arith })
 
-sub-result-2 : tie.Need-overflow-sub-result-2
+sub-result-2 : tie.Need-overflow_sub-result-then-mean-lt0
 sub-result-2 c = rw ((negative c).0, to_z_pos w16 {n = mag c.before.args.mean} c.before.ranges.mean.sfits) (omega arith)
 
-returns : tie.Need-returns
+returns : tie.Need-returns-then-mean-lt0
 returns c = rw ((negative c).0, to_z_pos w16 {n = mag c.before.args.mean} c.before.ranges.mean.sfits) (omega (arith, (negative c).1))
 
-cast-result-2 : tie.Need-overflow-cast-result-2
+cast-result-2 : tie.Need-overflow_cast-result-2
 cast-result-2 c = rw (natural c).0 (tt, record { fits = omega arith })
 
-returns_2 : tie.Need-returns-2
+returns_2 : tie.Need-returns
 returns_2 c = rw (natural c).0 (omega (arith, (natural c).1))
 
 pub twos_spec : {M : Type 1} → statement M

@@ -9,31 +9,31 @@ use Rattle.casewriter.proofs.sections.fill.Statement.{statement}
 use Rattle.casewriter.proofs.sections.fill.Tie as tie
 
 -- two bytes stored, and the means after them
-as_long : (c : tie.After-means-into) → length c.means-into.new.0 ≡ length c.before.before.before.before.before.args.out.now
-as_long c = c.means-into.auto.0 ∙ simp length-set
+as_long : (c : tie.After-means_into) → length c.means_into.new.out ≡ length c.before.before.before.before.before.args.out.now
+as_long c = c.means_into.auto.out ∙ simp length-set
 
-slice-write-out : tie.Need-slice-write-out
+slice-write-out : tie.Need-bounds-out-0
 slice-write-out c = search rules
 
-slice-write-out-2 : tie.Need-slice-write-out-2
+slice-write-out-2 : tie.Need-bounds-out-1
 slice-write-out-2 c = simp length-set (omega arith)
 
-means-into-requires : tie.Need-means-into-requires
+means-into-requires : tie.Need-means_into-requires
 means-into-requires c κs = simp length-set (omega arith)
 
-mul-readings-at : tie.Need-overflow-mul-readings-at
+mul-readings-at : tie.Need-overflow_mul-readings_at
 mul-readings-at c = search rules
 
-add-readings-at : tie.Need-overflow-add-readings-at
+add-readings-at : tie.Need-overflow_add-readings_at
 add-readings-at c = search rules
 
-add-cuts-at : tie.Need-overflow-add-cuts-at
+add-cuts-at : tie.Need-overflow_add-cuts_at
 add-cuts-at c = search rules
 
-mul-cuts-at : tie.Need-overflow-mul-cuts-at
+mul-cuts-at : tie.Need-overflow_mul-cuts_at
 mul-cuts-at c = search rules
 
-add-cuts-at-2 : tie.Need-overflow-add-cuts-at-2
+add-cuts-at-2 : tie.Need-overflow_add-cuts_at-2
 add-cuts-at-2 c = search rules
 
 number-requires : tie.Need-number-requires
@@ -42,20 +42,20 @@ number-requires c κs = omega (arith, as_long c.before.before.before.before)
 number-requires-2 : tie.Need-number-requires-2
 number-requires-2 c κs = omega (arith, as_long c.before.before.before.before.before.before.before.before)
 
-add-items-into : tie.Need-overflow-add-items-into
+add-items-into : tie.Need-overflow_add-readings_at-2
 add-items-into c = search rules
 
-add-items-into-2 : tie.Need-overflow-add-items-into-2
+add-items-into-2 : tie.Need-overflow_add-cuts_at-3
 add-items-into-2 c = search rules
 
-items-into-requires : tie.Need-items-into-requires
+items-into-requires : tie.Need-items_into-requires
 items-into-requires c κs =
     let s = c.before.before.before.before.before.before.before.before.before.before.before.before.before.before.before.before.before in
     let readings = ap (λ (m : Marked). m.readings) s.requires.counted in
     let cuts = ap (λ (m : Marked). m.cuts) s.requires.counted in
     record { as_long = s.requires.as_long; apart = omega (arith, readings); inside = omega (arith, readings, cuts, as_long c.before.before.before.before.before.before.before.before.before.before.before.before) }
 
-same_length : tie.Need-same-length
+same_length : tie.Need-shape_of-out
 same_length c = omega (arith, as_long c.before.before.before.before.before.before.before.before.before.before.before.before.before.before.before)
 
 returns : tie.Need-returns
@@ -67,10 +67,10 @@ returns c =
     let s = means.before.before.before.before.before in
     let a = s.args in
     file_stored a.profile a.weekday a.means.now a.marks.now a.counts.now a.out.now a.m s.requires.counted
-    means.means-into.ensures
+    means.means_into.ensures
     first.number.ensures
-    second.number2.ensures
-    items.items-into.ensures
+    second.number-2.ensures
+    items.items_into.ensures
 
 pub fill_spec : {M : Type 1} → statement M
 fill_spec =

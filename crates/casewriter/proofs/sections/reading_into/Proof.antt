@@ -14,32 +14,32 @@ use Rattle.casewriter.proofs.Stored.{number_stored}
 use Rattle.casewriter.proofs.sections.reading_into.Statement.{statement}
 use Rattle.casewriter.proofs.sections.reading_into.Tie as tie
 
-there : (c : tie.Then1) → marks_reading c.before.before.before.args.mark ≡ true
-there c = sym c.before.is-reading.ensures ∙ c.if1.true
+there : (c : tie.Then-is_reading) → marks_reading c.before.before.before.args.mark ≡ true
+there c = sym c.before.is_reading.ensures ∙ c.if-is_reading.true
 
 -- room for the ten bytes
-room : (c : tie.Then1) → let a = c.before.before.before.args in a.at + 10 ≤ length a.out.now
+room : (c : tie.Then-is_reading) → let a = c.before.before.before.args in a.at + 10 ≤ length a.out.now
 room c = let s = c.before.before.before in omega (arith, rw (there c) at s.requires, reading_bytes_long s.args.k s.args.count)
 
-is-reading-requires : tie.Need-is-reading-requires
+is-reading-requires : tie.Need-is_reading-requires
 is-reading-requires c κs = search rules
 
 number-requires : tie.Need-number-requires
 number-requires c κs = omega (arith, room c.before)
 
-add-number : tie.Need-overflow-add-number
+add-number : tie.Need-overflow_add-at
 add-number c = search rules
 
-number-requires-2 : tie.Need-number-requires-2
+number-requires-2 : tie.Need-number-requires-then-is_reading
 number-requires-2 c κs = omega (arith, room c.before.before.before.before.before)
 
-add-result : tie.Need-overflow-add-result
+add-result : tie.Need-overflow_add-result
 add-result c = search rules
 
-same_length : tie.Need-same-length
+same_length : tie.Need-shape_of-out-then-is_reading
 same_length c = search rules
 
-returns : tie.Need-returns
+returns : tie.Need-returns-then-is_reading
 returns c =
     let second = c.before.before in
     let t = second.before.before.before.before.before.before in
@@ -47,11 +47,11 @@ returns c =
     rw (there t)
     (record {
       ends = omega (arith, reading_bytes_long a.k a.count);
-      stored = second.number2.ensures ∙ ap (λ (o : List ℕ). sets o (a.at + 2) (little_bytes 8 a.count)) second.before.before.before.before.number.ensures ∙ number_stored a.out.now a.at a.k (little_bytes 8 a.count);
+      stored = second.number-then-is_reading.ensures ∙ ap (λ (o : List ℕ). sets o (a.at + 2) (little_bytes 8 a.count)) second.before.before.before.before.number.ensures ∙ number_stored a.out.now a.at a.k (little_bytes 8 a.count);
     })
 
-returns_2 : tie.Need-returns-2
-returns_2 c = rw (sym c.before.is-reading.ensures ∙ c.if1.false) (record { ends = omega arith; stored = refl })
+returns_2 : tie.Need-returns
+returns_2 c = rw (sym c.before.is_reading.ensures ∙ c.if-is_reading.false) (record { ends = omega arith; stored = refl })
 
 pub reading_into_spec : {M : Type 1} → statement M
 reading_into_spec =

@@ -35,16 +35,16 @@ module _ (t : ℕ) where
   byte_requires : digits-lts.Need-byte-requires called (digits_at t) digits.Post
   byte_requires c κs = omega arith
 
-  same_length : digits-lts.Need-same-length called (digits_at t) digits.Post
+  same_length : digits-lts.Need-shape_of-out-then-n-lt10 called (digits_at t) digits.Post
   same_length c = search rules
 
-  returns : digits-lts.Need-returns called (digits_at t) digits.Post
+  returns : digits-lts.Need-returns-then-n-lt10 called (digits_at t) digits.Post
   returns c =
       let byte = c.before.before in
       let test = byte.before.before.before in
-      rw (one_digit test.before.before.args.n test.if1.true, sym byte.before.glyph.ensures) byte.byte.ensures
+      rw (one_digit test.before.before.args.n test.if-n-lt10.true, sym byte.before.glyph.ensures) byte.byte.ensures
 
-  digits_requires : digits-lts.Need-digits-requires called (digits_at t) digits.Post
+  digits_requires : digits-lts.Need-digits-last-requires called (digits_at t) digits.Post
   digits_requires c κs = (omega arith, omega arith)
 
   glyph_requires_2 : digits-lts.Need-glyph-requires-2 called (digits_at t) digits.Post
@@ -53,18 +53,18 @@ module _ (t : ℕ) where
   byte_requires_2 : digits-lts.Need-byte-requires-2 called (digits_at t) digits.Post
   byte_requires_2 c κs =
       let digits = c.before.before.before.before in
-      omega (arith, digits.digits.ensures.ends, decimal_most (digits.before.before.before.before.args.n / 10))
+      omega (arith, digits.digits-last.ensures.ends, decimal_most (digits.before.before.before.before.args.n / 10))
 
-  same_length_2 : digits-lts.Need-same-length-2 called (digits_at t) digits.Post
+  same_length_2 : digits-lts.Need-shape_of-out called (digits_at t) digits.Post
   same_length_2 c = search rules
 
-  returns_2 : digits-lts.Need-returns-2 called (digits_at t) digits.Post
+  returns_2 : digits-lts.Need-returns called (digits_at t) digits.Post
   returns_2 c =
       let byte = c.before.before in
       let digits = byte.before.before.before.before.before in
       let test = digits.before.before in
       let start = test.before.before in
-      rw (last_digit start.args.n test.if1.false start.ranges.n.fits, sym byte.before.glyph2.ensures) (then_laid digits.digits.ensures byte.byte2.ensures)
+      rw (last_digit start.args.n test.if-n-lt10.false start.ranges.n.fits, sym byte.before.glyph-2.ensures) (then_laid digits.digits-last.ensures byte.byte-2.ensures)
 
 pub +digits_spec : {M : Type 1} → statement M
 +digits_spec = close μ_digits (λ t. digits-lts.spec (called t) (digits_at t) digits.Post (glyph_requires t) (byte_requires t) (same_length t) (returns t) (digits_requires t) (glyph_requires_2 t) (byte_requires_2 t) (same_length_2 t) (returns_2 t))

@@ -5,23 +5,23 @@ use lib.Seq.{set_out}
 use Rattle.layout.proofs.put.byte.Statement.{statement}
 use Rattle.layout.proofs.put.byte.Tie as tie
 
-slice-write-out : tie.Need-slice-write-out
+slice-write-out : tie.Need-bounds-out-at
 slice-write-out c = search rules
 
-add-result : tie.Need-overflow-add-result
+add-result : tie.Need-overflow_add-result
 add-result c = search rules
 
-same_length : tie.Need-same-length
+same_length : tie.Need-shape_of-out-then-at-out
 same_length c = search rules
 
-returns : tie.Need-returns
+returns : tie.Need-returns-then-at-out
 returns c = record { ends = refl; stored = refl }
 
-add-result-2 : tie.Need-overflow-add-result-2
+add-result-2 : tie.Need-overflow_add-result-2
 add-result-2 c = search rules
 
-returns_2 : tie.Need-returns-2
-returns_2 c = record { ends = refl; stored = sym (set_out _ _ _ c.if1.false) }
+returns_2 : tie.Need-returns
+returns_2 c = record { ends = refl; stored = sym (set_out _ _ _ c.if-at-out.false) }
 
 pub byte_spec : {M : Type 1} → statement M
 byte_spec =

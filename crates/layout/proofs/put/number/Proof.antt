@@ -6,23 +6,23 @@ use Rattle.layout.proofs.Laid.{then_laid}
 use Rattle.layout.proofs.put.number.Statement.{statement}
 use Rattle.layout.proofs.put.number.Tie as tie
 
-digits_requires : tie.Need-digits-requires
+digits_requires : tie.Need-digits-end-requires
 digits_requires c κs = search rules
 
 byte_requires : tie.Need-byte-requires
 byte_requires c κs =
     let digits = c.before.before.before in
-    omega (arith, digits.digits.ensures.ends, decimal_most digits.before.before.before.args.n)
+    omega (arith, digits.digits-end.ensures.ends, decimal_most digits.before.before.before.args.n)
 
-same_length : tie.Need-same-length
+same_length : tie.Need-shape_of-out
 same_length c = search rules
 
 returns : tie.Need-returns
 returns c =
     let byte = c.before.before in
     let digits = byte.before.before.before.before in (
-      then_laid digits.digits.ensures byte.byte.ensures,
-      omega (arith, byte.byte.ensures.ends, digits.digits.ensures.ends, decimal_most digits.before.before.before.args.n),
+      then_laid digits.digits-end.ensures byte.byte.ensures,
+      omega (arith, byte.byte.ensures.ends, digits.digits-end.ensures.ends, decimal_most digits.before.before.before.args.n),
     )
 
 pub number_spec : {M : Type 1} → statement M

@@ -6,7 +6,6 @@ use Prim.Native.Nat.{ℕ, ◌+◌, ◌-◌, ◌≤◌, ◌<◌}
 use native.Mathlib.Omega.{arith}
 use native.Mathlib.Numerals.{add-one}
 use native.Mathlib.Nat.{add-zero, add-suc}
-use borrow.Author.Rules.{zero≤}
 use lib.ListN.{length, get_or, set, drop, length-set, drop_of_length-le}
 use lib.Seq.{sets, drop-cons}
 use Rattle.layout.proofs.put.word.Statement.{statement}
@@ -20,35 +19,35 @@ step out word at i h = rw (drop-cons word i 0 h, add-one, add-suc)
 last : (out word : List ℕ) (k i : ℕ) → length word ≤ i → sets out k (drop i word) ≡ out
 last out word k i h = rw (drop_of_length-le word h)
 
-abbrev invariant-loop : tie.invariant-loop
+abbrev invariant-loop : tie.invariant-loop-i
 invariant-loop out₀ at text i₀ out i =
     (i ≤ length text) × (length out ≡ length out₀) × (sets out (at + i) (drop i text) ≡ sets out₀ at text)
 
-abbrev decreases-loop : tie.decreases-loop
+abbrev decreases-loop : tie.decreases-loop-i
 decreases-loop out₀ at text i₀ out i = length text - i
 
-loop-holds : tie.Need-loop-init invariant-loop decreases-loop
-loop-holds c = (zero≤, refl, rw add-zero)
+loop-holds : tie.Need-loop-i-init invariant-loop decreases-loop
+loop-holds c = (omega arith, refl, rw add-zero)
 
-add-byte : tie.Need-overflow-add-byte invariant-loop decreases-loop
+add-byte : tie.Need-overflow_add-at invariant-loop decreases-loop
 add-byte c = omega arith
 
-shared-slice-read-byte : tie.Need-shared-slice-read-byte invariant-loop decreases-loop
+shared-slice-read-byte : tie.Need-bounds-text-i invariant-loop decreases-loop
 shared-slice-read-byte c = omega arith
 
 byte_requires : tie.Need-byte-requires invariant-loop decreases-loop
 byte_requires c κs = omega arith
 
-add-i : tie.Need-overflow-add-i invariant-loop decreases-loop
+add-i : tie.Need-overflow_add-i invariant-loop decreases-loop
 add-i c = omega arith
 
-loop-less : tie.Need-loop-smaller invariant-loop decreases-loop
+loop-less : tie.Need-loop-i-smaller invariant-loop decreases-loop
 loop-less c = omega arith
 
-loop-again : tie.Need-loop-preserved invariant-loop decreases-loop
+loop-again : tie.Need-loop-i-preserved invariant-loop decreases-loop
 loop-again c =
     let put = c.before.before.byte.ensures.stored in
-    let l = c.before.before.before.before.before.before.loop in
+    let l = c.before.before.before.before.before.before.loop-i in
     let a = c.before.before.before.before.before.before.before.before.before.args in (
       omega arith,
       ap length put ∙ length-set l.out (a.at + l.i) (get_or a.text.now l.i 0) ∙ l.invariant.1,
@@ -57,16 +56,16 @@ loop-again c =
           l.invariant.2,
     )
 
-add-result : tie.Need-overflow-add-result invariant-loop decreases-loop
+add-result : tie.Need-overflow_add-result invariant-loop decreases-loop
 add-result c = omega arith
 
-same_length : tie.Need-same-length invariant-loop decreases-loop
-same_length c = c.before.loop.invariant.1
+same_length : tie.Need-shape_of-out invariant-loop decreases-loop
+same_length c = c.before.loop-i.invariant.1
 
 returns : tie.Need-returns invariant-loop decreases-loop
 returns c =
-    let l = c.before.loop in
-    record { ends = omega arith; stored = sym (last l.out _ _ _ c.loop-test.false) ∙ l.invariant.2 }
+    let l = c.before.loop-i in
+    record { ends = omega arith; stored = sym (last l.out _ _ _ c.loop-i-test.false) ∙ l.invariant.2 }
 
 pub word_spec : {M : Type 1} → statement M
 word_spec =

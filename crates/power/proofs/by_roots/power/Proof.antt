@@ -7,15 +7,15 @@ use Rattle.power.proofs.AtMostOne.{raise_le}
 use Rattle.power.proofs.by_roots.power.Statement.{statement}
 use Rattle.power.proofs.by_roots.power.Tie as tie
 
-raise-requires : tie.Need-raise-requires
+raise-requires : tie.Need-raise-p-requires
 raise-requires c κs = search rules
 
-times-roots-requires : tie.Need-times-roots-requires
-times-roots-requires c κs = (c.before.requires, rw c.raise.ensures (raise_le _ _ _ _ c.before.requires (le_refl one)))
+times-roots-requires : tie.Need-times_roots-requires
+times-roots-requires c κs = (c.before.requires, rw c.raise-p.ensures (raise_le _ _ _ _ c.before.requires (le_refl one)))
 
 returns : tie.Need-returns
 unfolding power
-returns c = rw (← c.before.raise.ensures) c.times-roots.ensures
+returns c = rw (← c.before.raise-p.ensures) c.times_roots.ensures
 
 pub power_spec : {M : Type 1} → statement M
 power_spec = tie.close (tie.spec raise-requires times-roots-requires returns)

@@ -6,7 +6,7 @@ use Rattle.power.specs.Power.{one, scaled_product}
 use Rattle.power.proofs.rounded.product.Statement.{statement}
 use Rattle.power.proofs.rounded.product.Tie as tie
 
-mul-quotient : tie.Need-overflow-mul-quotient
+mul-quotient : tie.Need-overflow_mul-p
 unfolding one
 mul-quotient c = omega (arith, mul-le-mul c.requires.0 c.requires.1)
 

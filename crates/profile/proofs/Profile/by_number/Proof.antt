@@ -12,7 +12,7 @@ use Rattle.profile.proofs.Tested.{profile_tested}
 use Rattle.profile.proofs.Profile.by_number.Statement.{statement}
 use Rattle.profile.proofs.Profile.by_number.Tie as tie
 
-returns : tie.Need-returns
+returns : tie.Need-returns-then-number-ge-COUNT
 unfolding profile_of
 returns c =
     let above : profile_count ≤ c.before.args.number = omega arith in
@@ -25,16 +25,16 @@ returns c =
       (search rules, (search rules, search rules)),
     )
 
-profile-at-requires : tie.Need-profile-at-requires
+profile-at-requires : tie.Need-profile_at-requires
 profile-at-requires c κs = search rules
 
-returns_2 : tie.Need-returns-2
+returns_2 : tie.Need-returns
 returns_2 c =
-    let test = lt-leb _ _ c.before.if1.false in (
+    let test = lt-leb _ _ c.before.if-number-ge-COUNT.false in (
       record {
         answers = simp test;
-        gives = c.profile-at.ensures;
-        week = λ e. rw c.profile-at.ensures (profile_tested c.before.before.args.number c.before.if1.false).week;
+        gives = c.profile_at.ensures;
+        week = λ e. rw c.profile_at.ensures (profile_tested c.before.before.args.number c.before.if-number-ge-COUNT.false).week;
       },
       (search rules, (search rules, search rules)),
     )

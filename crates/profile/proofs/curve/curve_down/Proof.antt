@@ -12,13 +12,13 @@ use Rattle.profile.proofs.curve.curve_down.Tie as tie
 small : (c : tie.Start) → c.args.a * 100 * c.args.s < 2 ^ 61
 small c = curve_small c.args.a c.args.s c.requires.0 c.requires.1
 
-mul-result : tie.Need-overflow-mul-result
+mul-result : tie.Need-overflow_mul-result
 mul-result c = search rules
 
-mul-result-2 : tie.Need-overflow-mul-result-2
+mul-result-2 : tie.Need-overflow_mul-result-2
 mul-result-2 c = record { fits = omega (arith, small c) }
 
-cast-result : tie.Need-overflow-cast-result
+cast-result : tie.Need-overflow_cast-result-2
 cast-result c = record { sfits = omega (arith, small c) }
 
 returns : tie.Need-returns

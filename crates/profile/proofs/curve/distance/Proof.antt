@@ -10,22 +10,22 @@ use Rattle.profile.proofs.Range.{steps_natural, steps_most}
 use Rattle.profile.proofs.curve.distance.Statement.{statement}
 use Rattle.profile.proofs.curve.distance.Tie as tie
 
-cast-hundredths : tie.Need-overflow-cast-hundredths
+cast-hundredths : tie.Need-overflow_cast-hundredths
 cast-hundredths c = simp (to_z-of_z c.ranges.t) (sfits_widen tt c.ranges.t)
 
 -- the number of steps, within 32 bits
 fits : (c : tie.Start) → SFits w32 (pos 4_000 -ℤ c.args.t)
 fits c = sfits (pos 4_000 -ℤ c.args.t) (omega (arith, steps_most c.args.t c.requires))
 
-sub-hundredths : tie.Need-overflow-sub-hundredths
+sub-hundredths : tie.Need-overflow_sub-hundredths
 sub-hundredths c = simp (widened w32 c.ranges.t tt) (fits c)
 
-cast-hundredths-2 : tie.Need-overflow-cast-hundredths-2
+cast-hundredths-2 : tie.Need-overflow_cast-hundredths-2
 cast-hundredths-2 c =
     simp (widened w32 c.ranges.t tt, to_z-of_z (fits c))
     (steps_natural c.args.t c.requires, record { fits = omega (arith, steps_most c.args.t c.requires) })
 
-mul-result : tie.Need-overflow-mul-result
+mul-result : tie.Need-overflow_mul-result
 mul-result c =
     simp (widened w32 c.ranges.t tt, to_z-of_z (fits c))
     (record { fits = omega (arith, steps_most c.args.t c.requires) })

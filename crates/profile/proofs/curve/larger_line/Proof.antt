@@ -11,52 +11,52 @@ use Rattle.profile.proofs.Integer.{larger_yes, larger_no, kept}
 use Rattle.profile.proofs.curve.larger_line.Statement.{statement}
 use Rattle.profile.proofs.curve.larger_line.Tie as tie
 
-line-at-requires : tie.Need-line-at-requires
+line-at-requires : tie.Need-line_at-heating-requires
 line-at-requires c κs = search rules
 
-line-at-requires-2 : tie.Need-line-at-requires-2
+line-at-requires-2 : tie.Need-line_at-water-requires
 line-at-requires-2 c κs = search rules
 
-abbrev p : tie.After-line-at2 → Profile
+abbrev p : tie.After-line_at-water → Profile
 p c = c.before.before.before.before.before.before.args.p
 
-abbrev t : tie.After-line-at2 → ℤ
+abbrev t : tie.After-line_at-water → ℤ
 t c = c.before.before.before.before.before.before.args.t
 
-heating : (c : tie.After-line-at2) → c.before.before.before.line_at_lem.result ≡ line (p c).mh (p c).bh (t c)
+heating : (c : tie.After-line_at-water) → c.before.before.before.line_at-heating.result ≡ line (p c).mh (p c).bh (t c)
 heating c =
-    let told = c.before.before.before.before.struct-told2.given in
+    let told = c.before.before.before.before.struct_told-2-1.given in
     simp (
       to_z-of_z {w = w32} {z = (p c).mh} (record { sfits = told.1.1.1.1.0.1 }),
       to_z-of_z {w = w32} {z = (p c).bh} (record { sfits = told.1.1.1.1.1.0.1 }),
       to_z-of_z c.before.before.before.before.before.before.ranges.t,
     )
-    at c.before.before.before.line_at_lem.ensures.is
+    at c.before.before.before.line_at-heating.ensures.is
 
-water : (c : tie.After-line-at2) → c.line-at2.result ≡ line (p c).mw (p c).bw (t c)
+water : (c : tie.After-line_at-water) → c.line_at-water.result ≡ line (p c).mw (p c).bw (t c)
 water c =
-    let told = c.before.before.before.before.struct-told2.given in
+    let told = c.before.before.before.before.struct_told-2-1.given in
     simp (
       to_z-of_z {w = w32} {z = (p c).mw} (record { sfits = told.1.1.1.1.1.1.0.1 }),
       to_z-of_z {w = w32} {z = (p c).bw} (record { sfits = told.1.1.1.1.1.1.1.0.1 }),
       to_z-of_z c.before.before.before.before.before.before.ranges.t,
     )
-    at c.line-at2.ensures.is
+    at c.line_at-water.ensures.is
 
-returns : tie.Need-returns
+returns : tie.Need-returns-then-heating-water
 returns c =
-    let w = c.before.line-at2 in
-    let h = c.before.before.before.before.line_at_lem in
-    let test = simp (kept h.result h.type-inv, kept w.result w.type-inv) at c.if1.true in
-    simp (kept w.result w.type-inv)
+    let w = c.before.line_at-water in
+    let h = c.before.before.before.before.line_at-heating in
+    let test = simp (kept h.result h.type_inv, kept w.result w.type_inv) at c.if-heating-water.true in
+    simp (kept w.result w.type_inv)
     (record { is = larger_yes (heating c.before) (water c.before) test; small = w.ensures.small })
 
-returns_2 : tie.Need-returns-2
+returns_2 : tie.Need-returns
 returns_2 c =
-    let w = c.before.line-at2 in
-    let h = c.before.before.before.before.line_at_lem in
-    let test = simp (kept h.result h.type-inv, kept w.result w.type-inv) at c.if1.false in
-    simp (kept h.result h.type-inv)
+    let w = c.before.line_at-water in
+    let h = c.before.before.before.before.line_at-heating in
+    let test = simp (kept h.result h.type_inv, kept w.result w.type_inv) at c.if-heating-water.false in
+    simp (kept h.result h.type_inv)
     (record { is = larger_no (heating c.before) (water c.before) test; small = h.ensures.small })
 
 pub larger_line_spec : {M : Type 1} → statement M

@@ -32,23 +32,23 @@ module _ {m b t : ℤ} (fm : SFits w32 m) (fb : SFits w32 b) (ft : SFits w16 t) 
   line_fits : SFits w64 (line m b t)
   line_fits = sfits (line m b t) (omega (arith, line_size))
 
-cast-result : tie.Need-overflow-cast-result
+cast-result : tie.Need-overflow_cast-result
 cast-result c = simp (to_z-of_z c.ranges.m) (sfits_widen tt c.ranges.m)
 
-cast-result-2 : tie.Need-overflow-cast-result-2
+cast-result-2 : tie.Need-overflow_cast-result-2
 cast-result-2 c = simp (to_z-of_z c.ranges.t) (sfits_widen tt c.ranges.t)
 
-mul-result : tie.Need-overflow-mul-result
+mul-result : tie.Need-overflow_mul-result
 mul-result c =
     simp (widened w64 c.ranges.m tt, widened w64 c.ranges.t tt) (slope_fits c.ranges.m c.ranges.b c.ranges.t)
 
-cast-result-3 : tie.Need-overflow-cast-result-3
+cast-result-3 : tie.Need-overflow_cast-result-3
 cast-result-3 c = simp (to_z-of_z c.ranges.b) (sfits_widen tt c.ranges.b)
 
-mul-result-2 : tie.Need-overflow-mul-result-2
+mul-result-2 : tie.Need-overflow_mul-result-2
 mul-result-2 c = simp (widened w64 c.ranges.b tt) (height_fits c.ranges.m c.ranges.b c.ranges.t)
 
-add-result : tie.Need-overflow-add-result
+add-result : tie.Need-overflow_add-result
 add-result c =
     simp (
       widened w64 c.ranges.m tt,

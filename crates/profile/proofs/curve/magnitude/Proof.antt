@@ -30,34 +30,34 @@ module _ (x : ℤ) (f : SFits w32 x) where
   size_fits : SFits w64 (pos (nat_abs x))
   size_fits = sfits (pos (nat_abs x)) (omega (arith, size f))
 
-cast-wide : tie.Need-overflow-cast-wide
+cast-wide : tie.Need-overflow_cast-wide
 cast-wide c = simp (to_z-of_z c.ranges.x) (sfits_widen tt c.ranges.x)
 
-sub-result : tie.Need-overflow-sub-result
+sub-result : tie.Need-overflow_sub-result
 sub-result c =
     let x = c.before.args.x in
     let f = c.before.ranges.x in
-    simp (widened w64 f tt, negated x (simp (widened w64 f tt) at c.if1.true)) (size_fits x f)
+    simp (widened w64 f tt, negated x (simp (widened w64 f tt) at c.if-wide-lt0.true)) (size_fits x f)
 
-cast-result : tie.Need-overflow-cast-result
+cast-result : tie.Need-overflow_cast-result
 cast-result c =
     let x = c.before.args.x in
     let f = c.before.ranges.x in
-    simp (widened w64 f tt, negated x (simp (widened w64 f tt) at c.if1.true), to_z-of_z (size_fits x f)) (tt, fits x f)
+    simp (widened w64 f tt, negated x (simp (widened w64 f tt) at c.if-wide-lt0.true), to_z-of_z (size_fits x f)) (tt, fits x f)
 
-returns : tie.Need-returns
+returns : tie.Need-returns-then-wide-lt0
 returns c =
     let x = c.before.args.x in
     let f = c.before.ranges.x in
-    simp (widened w64 f tt, negated x (simp (widened w64 f tt) at c.if1.true), to_z-of_z (size_fits x f))
+    simp (widened w64 f tt, negated x (simp (widened w64 f tt) at c.if-wide-lt0.true), to_z-of_z (size_fits x f))
 
-cast-result-2 : tie.Need-overflow-cast-result-2
+cast-result-2 : tie.Need-overflow_cast-result-2
 cast-result-2 c =
     let x = c.before.args.x in
     let f = c.before.ranges.x in
-    simp (widened w64 f tt) (not_negative x (simp (widened w64 f tt) at c.if1.false), fits x f)
+    simp (widened w64 f tt) (not_negative x (simp (widened w64 f tt) at c.if-wide-lt0.false), fits x f)
 
-returns_2 : tie.Need-returns-2
+returns_2 : tie.Need-returns
 returns_2 c = simp (widened w64 c.before.ranges.x tt)
 
 pub magnitude_spec : {M : Type 1} → statement M

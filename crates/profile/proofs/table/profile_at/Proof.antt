@@ -6,10 +6,10 @@ use Rattle.profile.proofs.Tested.{get_d_any}
 use Rattle.profile.proofs.table.profile_at.Statement.{statement}
 use Rattle.profile.proofs.table.profile_at.Tie as tie
 
-mul-result : tie.Need-overflow-mul-result
+mul-result : tie.Need-offset_bounds-profile
 mul-result c = search rules
 
-array-copy-out-result : tie.Need-array-copy-out-result
+array-copy-out-result : tie.Need-bounds-profile-profile
 array-copy-out-result c = search rules
 
 returns : tie.Need-returns

@@ -5,24 +5,24 @@ use Rattle.weights.proofs.Calendar.{named_day, own_day}
 use Rattle.weights.proofs.days.counts_as.Statement.{statement}
 use Rattle.weights.proofs.days.counts_as.Tie as tie
 
-shared-slice-read-byte : tie.Need-shared-slice-read-byte
+shared-slice-read-byte : tie.Need-bounds-calendar-k
 shared-slice-read-byte c = search rules
 
-returns : tie.Need-returns
+returns : tie.Need-returns-then-byte-lt7
 returns c =
     let s = c.before.before in
-    omega (arith, named_day s.args.weekday s.args.calendar.now s.args.k s.requires.1 c.if1.true)
+    omega (arith, named_day s.args.weekday s.args.calendar.now s.args.k s.requires.1 c.if-byte-lt7.true)
 
-add-result : tie.Need-overflow-add-result
+add-result : tie.Need-overflow_add-result
 add-result c = search rules
 
-cast-result : tie.Need-overflow-cast-result
+cast-result : tie.Need-overflow_cast-result-2
 cast-result c = search rules
 
-returns_2 : tie.Need-returns-2
+returns_2 : tie.Need-returns
 returns_2 c =
     let s = c.before.before in
-    omega (arith, own_day s.args.weekday s.args.calendar.now s.args.k s.requires.1 c.if1.false)
+    omega (arith, own_day s.args.weekday s.args.calendar.now s.args.k s.requires.1 c.if-byte-lt7.false)
 
 pub counts_as_spec : {M : Type 1} → statement M
 counts_as_spec =

@@ -17,52 +17,52 @@ use Rattle.weights.proofs.Span.{weights_length, weights_at}
 use Rattle.weights.proofs.days.fill.Statement.{statement}
 use Rattle.weights.proofs.days.fill.Tie as tie
 
-abbrev invariant-loop : tie.invariant-loop
+abbrev invariant-loop : tie.invariant-loop-k
 invariant-loop number weekday means calendar out₀ k₀ out k = Filled (day_weight number weekday means calendar) (length out₀) out k
 
-abbrev decreases-loop : tie.decreases-loop
+abbrev decreases-loop : tie.decreases-loop-k
 decreases-loop number weekday means calendar out₀ k₀ out k = length out₀ - k
 
-loop-holds : tie.Need-loop-init invariant-loop decreases-loop
+loop-holds : tie.Need-loop-k-init invariant-loop decreases-loop
 loop-holds c = start _ _
 
 -- the temperature as it is passed on
-as_given : (c : tie.After-temperature-of invariant-loop decreases-loop) → to_z w16 (of_z w16 c.temperature-of.result) ≡ c.temperature-of.result
-as_given c = to_z-of_z {w = w16} (sfits_of c.temperature-of.type-inv)
+as_given : (c : tie.After-temperature_of-t invariant-loop decreases-loop) → to_z w16 (of_z w16 c.temperature_of-t.result) ≡ c.temperature_of-t.result
+as_given c = to_z-of_z {w = w16} (sfits_of c.temperature_of-t.type_inv)
 
-temperature-of-requires : tie.Need-temperature-of-requires invariant-loop decreases-loop
+temperature-of-requires : tie.Need-temperature_of-t-requires invariant-loop decreases-loop
 temperature-of-requires c κs = (c.before.before.before.before.requires.0.means_in_range, omega arith)
 
-counts-as-requires : tie.Need-counts-as-requires invariant-loop decreases-loop
+counts-as-requires : tie.Need-counts_as-day-requires invariant-loop decreases-loop
 counts-as-requires c κs = (c.before.before.before.before.before.requires.0.weekday_known, omega arith)
 
-weight-at-requires : tie.Need-weight-at-requires invariant-loop decreases-loop
+weight-at-requires : tie.Need-weight_at-requires invariant-loop decreases-loop
 weight-at-requires c κs =
     let s = c.before.before.before.before.before.before in
-    let day = day_known s.args.weekday s.args.calendar.now c.before.before.before.loop.k in
-    (s.requires.0.profile_known, omega (arith, day), ap in_range (as_given c.before) ∙ c.before.temperature-of.ensures.1)
+    let day = day_known s.args.weekday s.args.calendar.now c.before.before.before.loop-k.k in
+    (s.requires.0.profile_known, omega (arith, day), ap in_range (as_given c.before) ∙ c.before.temperature_of-t.ensures.1)
 
-mul-out : tie.Need-overflow-mul-out invariant-loop decreases-loop
+mul-out : tie.Need-offset_bounds-out-k invariant-loop decreases-loop
 mul-out c = search rules
 
-slice-write-out : tie.Need-slice-write-out invariant-loop decreases-loop
+slice-write-out : tie.Need-bounds-out-k invariant-loop decreases-loop
 slice-write-out c = omega arith
 
-add-k : tie.Need-overflow-add-k invariant-loop decreases-loop
+add-k : tie.Need-overflow_add-k invariant-loop decreases-loop
 add-k c = omega arith
 
-loop-less : tie.Need-loop-smaller invariant-loop decreases-loop
+loop-less : tie.Need-loop-k-smaller invariant-loop decreases-loop
 loop-less c = omega arith
 
-loop-again : tie.Need-loop-preserved invariant-loop decreases-loop
+loop-again : tie.Need-loop-k-preserved invariant-loop decreases-loop
 loop-again c =
     let a = c.before.before.before.before in
     let number = a.before.before.before.args.profile in
-    step _ a.loop.invariant (omega arith)
-    (c.weight-at.ensures ∙ ap₂ (weight_of number) c.before.counts-as.ensures (as_given c.before.before ∙ c.before.before.temperature-of.ensures.0))
+    step _ a.loop-k.invariant (omega arith)
+    (c.weight_at.ensures ∙ ap₂ (weight_of number) c.before.counts_as-day.ensures (as_given c.before.before ∙ c.before.before.temperature_of-t.ensures.0))
 
-same_length : tie.Need-same-length invariant-loop decreases-loop
-same_length c = c.before.loop.invariant.long
+same_length : tie.Need-shape_of-out invariant-loop decreases-loop
+same_length c = c.before.loop-k.invariant.long
 
 returns : tie.Need-returns invariant-loop decreases-loop
 returns c =
@@ -71,7 +71,7 @@ returns c =
     let weekday = s.args.weekday in
     let means = s.args.means.now in
     let calendar = s.args.calendar.now in
-    done c.before.loop.invariant (omega arith) (weights_of number weekday means calendar)
+    done c.before.loop-k.invariant (omega arith) (weights_of number weekday means calendar)
     (weights_length number weekday means calendar ∙ omega arith)
     (λ j h. weights_at number weekday means calendar j (omega arith))
 

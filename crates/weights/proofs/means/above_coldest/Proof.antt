@@ -7,10 +7,10 @@ use Rattle.weights.proofs.Raised.{up, raised, raised_bits, same, lowered}
 use Rattle.weights.proofs.means.above_coldest.Statement.{statement}
 use Rattle.weights.proofs.means.above_coldest.Tie as tie
 
-sub-result : tie.Need-overflow-sub-result
+sub-result : tie.Need-overflow_sub-result
 sub-result c = let r = raised _ c.requires in rw (raised_bits _ c.requires) (record { sfits = omega arith })
 
-cast-result : tie.Need-overflow-cast-result
+cast-result : tie.Need-overflow_cast-result
 cast-result c =
     let r = raised _ c.requires in
     rw (raised_bits _ c.requires, to_z_pos w16 {n = up c.args.mean} (omega arith)) (tt, record { fits = omega arith })

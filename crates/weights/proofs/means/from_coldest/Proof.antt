@@ -8,10 +8,10 @@ use Rattle.weights.proofs.Raised.{fits, lowered}
 use Rattle.weights.proofs.means.from_coldest.Statement.{statement}
 use Rattle.weights.proofs.means.from_coldest.Tie as tie
 
-cast-result : tie.Need-overflow-cast-result
+cast-result : tie.Need-overflow_cast-result
 cast-result c = search rules
 
-add-result : tie.Need-overflow-add-result
+add-result : tie.Need-overflow_add-result
 add-result c = rw (to_z_pos w16 {n = c.args.raised} (omega arith)) (fits _ (lowered c.args.raised) c.requires)
 
 returns : tie.Need-returns

@@ -12,13 +12,13 @@ use lib.Seq.{length-take-le}
 use Rattle.weights.proofs.means.serves.Statement.{statement}
 use Rattle.weights.proofs.means.serves.Tie as tie
 
-returns : tie.Need-returns
-returns c = rw (lt-leb _ _ c.if1.true)
+returns : tie.Need-returns-then-series-count
+returns c = rw (lt-leb _ _ c.if-series-count.true)
 
-slice-aggregate-first-out : tie.Need-slice-aggregate-first-out
+slice-aggregate-first-out : tie.Need-slice_bounds-first_out-end
 slice-aggregate-first-out c = simp length-take (omega arith)
 
-first-out-requires : tie.Need-first-out-requires
+first-out-requires : tie.Need-first_out-requires
 first-out-requires c κs = search rules
 
 at_least : (n x : ℕ) → leb n x ≡ not (ltb x n)
@@ -28,11 +28,11 @@ at_least n x = go (leb n x) refl
     go true e = rw (le-ltb x n (leb-true n x e))
     go false e = rw (lt-ltb x n (leb-false n x e))
 
-returns_2 : tie.Need-returns-2
+returns_2 : tie.Need-returns
 returns_2 c =
-    let s = c.before.before.before.args.series.now in
-    let n = c.before.before.before.args.count in
-    let h = c.before.before.if1.false in
+    let s = c.before.before.args.series.now in
+    let n = c.before.before.args.count in
+    let h = c.before.if-series-count.false in
     rw (at_least n c.first_out.result, le-leb n (length s) h, length-take-le n s h, c.first_out.ensures.gives)
 
 pub serves_spec : {M : Type 1} → statement M

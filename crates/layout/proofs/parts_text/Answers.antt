@@ -1,0 +1,14 @@
+-- `layout::parts_text` meets its contract (Case file): its words, numbers and lines, one after the other. Assumes nothing.
+use Rattle.layout.specs.Text.{decimal, line_feed}
+use Rattle.layout.proofs.Laid.{then_laid, then_both}
+use Rattle.layout.proofs.parts_text.Goals as goal
+
+pub returns : goal.returns
+returns c =
+    let laid =
+    then_both (decimal c.args.sum) line_feed
+    (then_laid
+    (then_laid (then_both (decimal c.args.parts) line_feed c.word-at.ensures c.number-at.ensures.laid_out) c.lines-at.ensures.laid_out)
+    c.word-at-2.ensures)
+    c.number.ensures.laid_out in
+    rw c.requires.sum_value at laid
