@@ -104,7 +104,7 @@ reading_numbered : (s : List ℕ) (at n i : ℕ) → Numbered (reading_fault_at 
 reading_numbered s at n i =
     numbered_before (boundary_fault 10 s at n i) _ (boundary_numbered 10 s at n i)
     (then (somewhere (λ j. ltb (reading_count_at s at i) (reading_count_at s at j)) i) 8 _ _ (lit< tt)
-    (numbered (ltb energy_most (reading_count_at s at i - reading_count_at s at 0)) 9 _ (lit< tt)))
+    (numbered _ 9 _ (lit< tt)))
 
 section_numbered : (s : List ℕ) (at : ℕ) (item : ℕ → Fault) → ((i : ℕ) → Numbered (item i)) → Numbered (section_fault s at item)
 section_numbered s at item all = then (ltb (length s) (at + 2)) 13 _ _ (lit< tt) (numbered_first item all (number16 s at))
