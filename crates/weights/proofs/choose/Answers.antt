@@ -40,15 +40,15 @@ slice_bounds-result-end-then-serves-2 c =
 pub returns-then-serves-2 : goal.returns-then-serves-2
 returns-then-serves-2 c =
     let e = le-leb 1 _ c.if-n-lt-SPAN_LEAST.false in
-    let f = le-leb _ span_most c.if-n-gt-SPAN_MOST.false in
+    let upto = le-leb _ span_most c.if-n-gt-SPAN_MOST.false in
     let m = sym c.serves.ensures ∙ c.if-serves.false in
     let p = sym c.serves-2.ensures ∙ c.if-serves-2.true in
-    record { start_is = simp (e, f, m, p); means_are = simp (e, f, m, p); measured_stays = refl; forecast_stays = refl }
+    record { start_is = simp (e, upto, m, p); means_are = simp (e, upto, m, p); measured_stays = refl; forecast_stays = refl }
 
 pub returns : goal.returns
 returns c =
     let e = le-leb 1 _ c.if-n-lt-SPAN_LEAST.false in
-    let f = le-leb _ span_most c.if-n-gt-SPAN_MOST.false in
+    let inside = le-leb _ span_most c.if-n-gt-SPAN_MOST.false in
     let m = sym c.serves.ensures ∙ c.if-serves.false in
     let p = sym c.serves-2.ensures ∙ c.if-serves-2.false in
-    record { start_is = simp (e, f, m, p); means_are = simp (e, f, m, p); measured_stays = refl; forecast_stays = refl }
+    record { start_is = simp (e, inside, m, p); means_are = simp (e, inside, m, p); measured_stays = refl; forecast_stays = refl }

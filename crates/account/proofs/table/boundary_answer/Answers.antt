@@ -29,5 +29,5 @@ pub returns : goal.returns
 returns c =
     let a = account c.args.weights.now c.args.marks.now c.args.counts.now in
     let is = c.check-n.ensures.check_met.answers in
-    let through = sym is ∙ rows_pass a _ is c.if-n-eq3.false c.if-n-eq5.false in
-    sym (rows_through a _ (checked a 0 through) ∙ ap (λ (b : Bool). row b 6 0) (le-ltb _ _ c.if-weights-k.false))
+    let passed = sym is ∙ rows_pass a _ is c.if-n-eq3.false c.if-n-eq5.false in
+    sym (rows_through a _ (checked a 0 passed) ∙ ap (λ (b : Bool). row b 6 0) (le-ltb _ _ c.if-weights-k.false))
