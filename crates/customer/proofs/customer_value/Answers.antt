@@ -50,14 +50,27 @@ record Computed (energy : ℕ) (w : List ℕ) (value : ℕ) : Type 0 where
   small : ltb 2_000_000_000 energy ≡ false
   rule : value ≡ customer_value energy w
 
+computed : (energy : ℕ) (w : List ℕ) (value : ℕ) → span_least ≤ length w → length w ≤ span_most → good_weights w ≡ true → energy ≤ 2_000_000_000 → value ≡ customer_value energy w
+    → Computed energy w value
+computed energy w value least most good small rule =
+    record { span = spanned w least most; good = good; small = le-ltb 2_000_000_000 energy small; rule = rule }
+
 pub returns-then-value-gt-VALUE_MOST : goal.returns-then-value-gt-VALUE_MOST
 returns-then-value-gt-VALUE_MOST c =
-    let h = (let e = c in let a = e.args in record { span = spanned a.weights.now e.if-n-lt-SPAN_LEAST.false e.if-n-gt-SPAN_MOST.false; good = sym e.good_weights.ensures.gives ∙ e.if-not-good_weights.false; small = le-ltb 2_000_000_000 a.energy e.if-energy-gt-ENERGY_MOST.false; rule = c.nearest_of-value.ensures ∙ ap (nearest (a.energy * 10_000_000)) c.sum_of.ensures; }) in
+    let h =
+        computed c.args.energy c.args.weights.now c.nearest_of-value.result c.if-n-lt-SPAN_LEAST.false c.if-n-gt-SPAN_MOST.false
+        (sym c.good_weights.ensures.gives ∙ c.if-not-good_weights.false)
+        c.if-energy-gt-ENERGY_MOST.false
+        (c.nearest_of-value.ensures ∙ ap (nearest (c.args.energy * 10_000_000)) c.sum_of.ensures) in
     let great = ap (ltb value_most) (sym h.rule) ∙ lt-ltb value_most _ c.if-value-gt-VALUE_MOST.true in
     record { answers = simp (h.span, h.good, h.small, great); gives = simp (h.span, h.good, h.small, great); stays = refl }
 
 pub returns : goal.returns
 returns c =
-    let h = (let e = c in let a = e.args in record { span = spanned a.weights.now e.if-n-lt-SPAN_LEAST.false e.if-n-gt-SPAN_MOST.false; good = sym e.good_weights.ensures.gives ∙ e.if-not-good_weights.false; small = le-ltb 2_000_000_000 a.energy e.if-energy-gt-ENERGY_MOST.false; rule = c.nearest_of-value.ensures ∙ ap (nearest (a.energy * 10_000_000)) c.sum_of.ensures; }) in
-    let within = ap (ltb value_most) (sym h.rule) ∙ le-ltb value_most _ c.if-value-gt-VALUE_MOST.false in
-    record { answers = simp (h.span, h.good, h.small, within); gives = simp (h.span, h.good, h.small, within) h.rule; stays = refl }
+    let known =
+        computed c.args.energy c.args.weights.now c.nearest_of-value.result c.if-n-lt-SPAN_LEAST.false c.if-n-gt-SPAN_MOST.false
+        (sym c.good_weights.ensures.gives ∙ c.if-not-good_weights.false)
+        c.if-energy-gt-ENERGY_MOST.false
+        (c.nearest_of-value.ensures ∙ ap (nearest (c.args.energy * 10_000_000)) c.sum_of.ensures) in
+    let within = ap (ltb value_most) (sym known.rule) ∙ le-ltb value_most _ c.if-value-gt-VALUE_MOST.false in
+    record { answers = simp (known.span, known.good, known.small, within); gives = simp (known.span, known.good, known.small, within) known.rule; stays = refl }

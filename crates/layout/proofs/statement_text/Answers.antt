@@ -61,10 +61,8 @@ returns-then-part_too_great c =
 pub total-requires : goal.total-requires
 total-requires c = (search rules, search rules, sym c.part_too_great.ensures ∙ c.if-part_too_great.false)
 
-pub parts_text-requires : goal.parts_text-requires
-parts_text-requires c =
-    let a = c.args in
-    (search rules, c.total.ensures a.from.now a.to.now)
+pub parts_text-requires-clause-sum_value : goal.parts_text-requires-clause-sum_value
+parts_text-requires-clause-sum_value c = c.total.ensures c.args.from.now c.args.to.now
 
 pub returns : goal.returns
 returns c =
