@@ -57,20 +57,12 @@ computed energy w value least most good small rule =
 
 pub returns-then-value-gt-VALUE_MOST : goal.returns-then-value-gt-VALUE_MOST
 returns-then-value-gt-VALUE_MOST c =
-    let h =
-        computed c.args.energy c.args.weights.now c.nearest_of-value.result c.if-n-lt-SPAN_LEAST.false c.if-n-gt-SPAN_MOST.false
-        (sym c.good_weights.ensures.gives ∙ c.if-not-good_weights.false)
-        c.if-energy-gt-ENERGY_MOST.false
-        (c.nearest_of-value.ensures ∙ ap (nearest (c.args.energy * 10_000_000)) c.sum_of.ensures) in
+    let h = computed c.args.energy c.args.weights.now c.nearest_of-value.result c.if-n-lt-SPAN_LEAST.false c.if-n-gt-SPAN_MOST.false (sym c.good_weights.ensures.gives ∙ c.if-not-good_weights.false) c.if-energy-gt-ENERGY_MOST.false (c.nearest_of-value.ensures ∙ ap (nearest (c.args.energy * 10_000_000)) c.sum_of.ensures) in
     let great = ap (ltb value_most) (sym h.rule) ∙ lt-ltb value_most _ c.if-value-gt-VALUE_MOST.true in
     record { answers = simp (h.span, h.good, h.small, great); gives = simp (h.span, h.good, h.small, great); stays = refl }
 
 pub returns : goal.returns
 returns c =
-    let known =
-        computed c.args.energy c.args.weights.now c.nearest_of-value.result c.if-n-lt-SPAN_LEAST.false c.if-n-gt-SPAN_MOST.false
-        (sym c.good_weights.ensures.gives ∙ c.if-not-good_weights.false)
-        c.if-energy-gt-ENERGY_MOST.false
-        (c.nearest_of-value.ensures ∙ ap (nearest (c.args.energy * 10_000_000)) c.sum_of.ensures) in
+    let known = computed c.args.energy c.args.weights.now c.nearest_of-value.result c.if-n-lt-SPAN_LEAST.false c.if-n-gt-SPAN_MOST.false (sym c.good_weights.ensures.gives ∙ c.if-not-good_weights.false) c.if-energy-gt-ENERGY_MOST.false (c.nearest_of-value.ensures ∙ ap (nearest (c.args.energy * 10_000_000)) c.sum_of.ensures) in
     let within = ap (ltb value_most) (sym known.rule) ∙ le-ltb value_most _ c.if-value-gt-VALUE_MOST.false in
     record { answers = simp (known.span, known.good, known.small, within); gives = simp (known.span, known.good, known.small, within) known.rule; stays = refl }

@@ -33,6 +33,6 @@ pub returns : goal.returns
 returns c =
     let a = c.args in
     let least = le-leb 1 a.weight c.if-weight-lt-WEIGHT_LEAST.false in
-    let most = le-leb a.weight 6_999_999 c.if-weight-gt-WEIGHT_MOST.false in
+    let upto = le-leb a.weight 6_999_999 c.if-weight-gt-WEIGHT_MOST.false in
     let small = le-ltb 1_000_000_000_000 a.value c.if-value-gt-VALUE_MOST.false in
-    record { answers = simp (least, most, small); gives = simp (least, most, small) c.nearest_of.ensures }
+    record { answers = simp (least, upto, small); gives = simp (least, upto, small) c.nearest_of.ensures }

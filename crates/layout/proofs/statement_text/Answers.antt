@@ -67,9 +67,5 @@ parts_text-requires-clause-sum_value c = c.total.ensures c.args.from.now c.args.
 pub returns : goal.returns
 returns c =
     let a = c.args in
-    let text = c.parts_text in
-    given_laid (outputs a.from.now a.to.now a.wh.now) a.parts _ _ _
-    (in_order a.from.now a.to.now a.wh.now a.parts c.if-parts-eq0.false c.if-parts-gt-SPAN_MOST.false c.if-from-parts.false c.if-to-parts.false c.if-wh-parts.false ∙
-    sym c.part_too_great.ensures ∙
-    c.if-part_too_great.false)
-    text.ensures
+    let order = in_order a.from.now a.to.now a.wh.now a.parts c.if-parts-eq0.false c.if-parts-gt-SPAN_MOST.false c.if-from-parts.false c.if-to-parts.false c.if-wh-parts.false in
+    given_laid (outputs a.from.now a.to.now a.wh.now) a.parts _ _ _ (order ∙ sym c.part_too_great.ensures ∙ c.if-part_too_great.false) c.parts_text.ensures

@@ -38,13 +38,13 @@ pub fill-parts-requires : goal.fill-parts-requires
 fill-parts-requires c =
     let a = account c.args.weights.now c.args.marks.now c.args.counts.now in
     let long : Long (days a) (outputs c.args.from.now c.args.to.now c.args.wh.now) = record { from = c.if-from-n.false; to = c.if-to-n.false; wh = c.if-wh-n.false } in
-    let sound = checked a _ c.check-refused.ensures.check_met.answers c.if-refused-ne0.false in
-    ready _ _ long sound (omega (arith, counted a sound _ c.count_readings.ensures)) _
+    let fit = checked a _ c.check-refused.ensures.check_met.answers c.if-refused-ne0.false in
+    ready _ _ long fit (omega (arith, counted a fit _ c.count_readings.ensures)) _
     (outputs_same c.clear_u16.ensures c.clear_u16-2.ensures c.clear_u64.ensures)
 
 pub returns : goal.returns
 returns c =
     let a = account c.args.weights.now c.args.marks.now c.args.counts.now in
     let long : Long (days a) (outputs c.args.from.now c.args.to.now c.args.wh.now) = record { from = c.if-from-n.false; to = c.if-to-n.false; wh = c.if-wh-n.false } in
-    let sound = checked a _ c.check-refused.ensures.check_met.answers c.if-refused-ne0.false in
-    met_parts _ _ long sound (omega (arith, counted a sound _ c.count_readings.ensures)) _ _ c.fill-parts.ensures
+    let known = checked a _ c.check-refused.ensures.check_met.answers c.if-refused-ne0.false in
+    met_parts _ _ long known (omega (arith, counted a known _ c.count_readings.ensures)) _ _ c.fill-parts.ensures
