@@ -8,24 +8,17 @@ use Rattle.profile.specs.Limits.{span_most, weight_most}
 use Rattle.account.specs.Account.{energy_most}
 use Rattle.statement.specs.Split.{rounded_share}
 use Rattle.statement.specs.Progress.{Splittable}
-use Rattle.statement.proofs.rounded_share.Statement.{statement}
-use Rattle.statement.proofs.rounded_share.Tie as tie
+use Rattle.statement.proofs.rounded_share.Goals as goal
 
 product : {e zk z : ℕ} → Splittable 0 e zk z → e * zk ≤ energy_most * (span_most * weight_most)
 product h = omega (arith, mul-le-mul h.energy h.share, mul-le-mul h.energy h.sum)
 
-mul-result : tie.Need-overflow_mul-result
-mul-result c = omega (arith, product c.requires)
+pub overflow_mul-result : goal.overflow_mul-result
+overflow_mul-result c = omega (arith, product c.requires)
 
-add-result : tie.Need-overflow_add-result
-add-result c = omega (arith, product c.requires, c.requires.sum)
+pub overflow_add-result : goal.overflow_add-result
+overflow_add-result c = omega (arith, product c.requires, c.requires.sum)
 
-div-result : tie.Need-nonzero_div-result-2
-div-result c = search rules
-
-returns : tie.Need-returns
+pub returns : goal.returns
 unfolding rounded_share
 returns c = half_added _ _
-
-pub rounded_share_spec : {M : Type 1} → statement M
-rounded_share_spec = tie.close (tie.spec mul-result add-result div-result returns)

@@ -7,24 +7,17 @@ use Rattle.rounding.proofs.Laws.{half_added}
 use Rattle.statement.specs.Split.{rounded_share}
 use Rattle.residual.specs.Call.{load_most, base_most}
 use Rattle.residual.specs.Progress.{Shareable}
-use Rattle.residual.proofs.rounded_share.Statement.{statement}
-use Rattle.residual.proofs.rounded_share.Tie as tie
+use Rattle.residual.proofs.rounded_share.Goals as goal
 
 product : {load part sum : ℕ} → Shareable load part sum → load * part ≤ load_most * base_most
 product {load} {part} {sum} h = let within : part ≤ base_most = omega (arith, h.share, h.sum_within) in mul-le-mul h.load_within within
 
-mul-result : tie.Need-overflow_mul-result
-mul-result c = omega (arith, product c.requires)
+pub overflow_mul-result : goal.overflow_mul-result
+overflow_mul-result c = omega (arith, product c.requires)
 
-add-result : tie.Need-overflow_add-result
-add-result c = omega (arith, product c.requires, c.requires.sum_within)
+pub overflow_add-result : goal.overflow_add-result
+overflow_add-result c = omega (arith, product c.requires, c.requires.sum_within)
 
-div-result : tie.Need-nonzero_div-result-2
-div-result c = search rules
-
-returns : tie.Need-returns
+pub returns : goal.returns
 unfolding rounded_share
 returns c = half_added _ _
-
-pub rounded_share_spec : {M : Type 1} → statement M
-rounded_share_spec = tie.close (tie.spec mul-result add-result div-result returns)
