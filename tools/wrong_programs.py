@@ -18,9 +18,9 @@ import sys
 import tempfile
 
 ROOT = os.path.dirname(os.path.dirname(os.path.abspath(__file__)))
-# What the prover says where an edit changed the goals of a function, so that its proof file does not fit any more: a goal or a variable is gone; or where
-# the edit does not compile.
-UNFIT = ("that can be named from here", "` has no field `", ": error[")
+# What the prover says where an edit changed the goals of a function, so that its proof file does not fit any more: a goal or a variable is gone, or what
+# cites it was not checked; or where the edit does not compile.
+UNFIT = ("that can be named from here", "` has no field `", "is not in scope", "was not admitted", "was not checked", "were not checked", ": error[")
 # Said here where the check broke off without an error.
 NOTHING = "no error was printed"
 
@@ -50,10 +50,11 @@ def unfit(first):
 
 
 def check(copy, crate):
-    """Whether the crate is proved, and the first thing that is wrong."""
+    """Whether the crate is proved, and the first fact that does not hold, or else the first thing that is wrong."""
     done = subprocess.run(["rt", "check", "--jobs", "1"], cwd=os.path.join(copy, "crates", crate), capture_output=True, text=True)
-    wrong = [line for line in (done.stdout + done.stderr).splitlines() if re.search(r": error[:[]", line) or re.search(r": not proved|: no proof", line)]
-    return done.returncode == 0, wrong[0].replace(copy + "/", "") if wrong else NOTHING
+    wrong = [line for line in (done.stdout + done.stderr).splitlines() if re.search(r": error[:[]|: it is not proved that |: no proof:", line)]
+    facts = [line for line in wrong if not unfit(line)]
+    return done.returncode == 0, (facts or wrong)[0].replace(copy + "/", "") if wrong else NOTHING
 
 
 def check_with(copy, crate, texts):
