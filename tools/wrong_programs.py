@@ -52,7 +52,7 @@ def unfit(first):
 def check(copy, crate):
     """Whether the crate is proved, and the first fact that does not hold, or else the first thing that is wrong."""
     done = subprocess.run(["rt", "check", "--jobs", "1"], cwd=os.path.join(copy, "crates", crate), capture_output=True, text=True)
-    wrong = [line for line in (done.stdout + done.stderr).splitlines() if re.search(r": error[:[]|: it is not proved that |: no proof:", line)]
+    wrong = [line for line in (done.stdout + done.stderr).splitlines() if re.search(r": error[:[]|: it is not proved that |: no proof: expected ", line)]
     facts = [line for line in wrong if not unfit(line)]
     return done.returncode == 0, (facts or wrong)[0].replace(copy + "/", "") if wrong else NOTHING
 
