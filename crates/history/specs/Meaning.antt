@@ -16,7 +16,7 @@ use Rattle.history.specs.Demand3.{Among, Given, Carries, Weighed, Demand3, Claim
 abbrev pub EveryAmong : Type 0
 EveryAmong = (before : List Event) (e : Event) (rest : List Event) → Among (before ++ (e ∷ rest)) before e
 
--- every statement of a list that was answered 0 is given (`Every-given`)
+-- every statement of a list that was answered 0 is given (`every_given`)
 abbrev pub EveryGiven : Type 0
 EveryGiven =
     (es before : List Event) (lent : Outputs) (m : ℕ) (after : Account) (out : Outputs) →
