@@ -1,5 +1,5 @@
 -- The refusals of a case file are the table's own (If a call declines), and have its numbers. Assumes nothing.
-use Prim.Native.Nat.{ℕ, ◌+◌, ◌-◌, ◌≤◌, ◌<◌}
+use Prim.Native.Nat.{ℕ, ◌+◌, ◌≤◌, ◌<◌}
 use mathlib.Core.Path.{◌≡◌, refl, sym, ◌∙◌, ap}
 use mathlib.Core.Bool.{Bool, true, false, cond, not, or-false}
 use mathlib.Core.List.{List}
@@ -12,7 +12,6 @@ use lib.ListN.{length, get_or, replicate, length-replicate, get_or-eq_default}
 use Rattle.profile.specs.Limits.{in_range, profile_count, bad_span}
 use Rattle.common.specs.Rows.{row}
 use Rattle.common.specs.Below.{somewhere}
-use Rattle.account.specs.Account.{energy_most}
 use Rattle.weights.specs.Means.{some_out}
 use Rattle.weights.specs.Weights.{Ruling, unfit}
 use Rattle.weights.proofs.Calendar.{own_named}

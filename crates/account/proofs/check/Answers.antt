@@ -1,12 +1,10 @@
 -- `account::check` meets its contract (Account and its calls): row 3, then the parts of soundness, one after the other. Assumes nothing.
 use Prim.Native.Nat.{ℕ}
 use mathlib.Core.Path.{◌≡◌, refl, sym, ◌∙◌}
-use mathlib.Core.Bool.{true, false}
 use native.Mathlib.Numerals.{add-one}
-use Rattle.account.specs.Account.{Account, account, days, unfit, good_weights, energy_most}
+use Rattle.account.specs.Account.{Account, account, days}
 use Rattle.account.specs.Refusals.{account_rows}
 use Rattle.account.specs.Calls.{CheckMet}
-use Rattle.account.specs.Slices.{good_boundaries}
 use Rattle.account.proofs.Sound.{fit}
 use Rattle.account.proofs.Rows.{unfit_rows, unsound_rows, sound_rows, weights_unsound, boundaries_unsound, energy_unsound, all_sound}
 use Rattle.account.proofs.check.Goals as goal

@@ -10,7 +10,6 @@ use Rattle.rounding.specs.Nearest.{nearest}
 use Rattle.profile.specs.Limits.{span_least, span_most, bad_span}
 use Rattle.account.specs.Account.{good_weights}
 use Rattle.customer.specs.Customer.{customer_value, value_most}
-use borrow.Author.Rules.{rules}
 use Rattle.customer.proofs.customer_value.Goals as goal
 
 spanned : (w : List ℕ) → span_least ≤ length w → length w ≤ span_most → bad_span (length w) ≡ false

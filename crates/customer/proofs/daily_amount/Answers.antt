@@ -1,7 +1,6 @@
 -- `customer::daily_amount` meets its contract (Customer value and daily amount): each return is the row of the table that its test led to. Assumes nothing.
 use Prim.Native.Nat.{ℕ, ◌*◌, ◌≤◌, ◌<◌, ◌^◌}
 use native.Mathlib.Nat.{mul-le-mul, lt_of_le_of_lt}
-use borrow.Author.Rules.{rules}
 use borrow.Author.Tests.{le-leb, lt-leb, lt-ltb, le-ltb}
 use lib.Dec.{lit<}
 use Rattle.customer.proofs.daily_amount.Goals as goal

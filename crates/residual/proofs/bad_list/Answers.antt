@@ -1,14 +1,10 @@
 -- `residual::bad_list` meets its contract (K5): none of the suppliers passed is above 63. Assumes nothing.
 use mathlib.Core.Path.{◌≡◌, refl, sym}
-use mathlib.Core.Bool.{false}
-use Prim.Native.Nat.{◌-◌, ◌≤◌}
 use native.Mathlib.Numerals.{add-one}
 use native.Mathlib.Omega.{arith}
-use borrow.Author.Rules.{rules}
 use borrow.Author.Tests.{le-ltb}
 use lib.ListN.{length, get_or}
 use Rattle.common.specs.Below.{somewhere}
-use Rattle.residual.specs.Call.{supplier_above}
 use Rattle.residual.proofs.Table.{empty_list, long_list, unknown_listed, good_list}
 use Rattle.residual.proofs.bad_list.Goals as goal
 

@@ -1,15 +1,10 @@
 -- What lasts in the loop of `residual::bad_list`, and what falls (K5).
-use mathlib.Core.Path.{◌≡◌, refl, sym}
+use mathlib.Core.Path.{◌≡◌}
 use mathlib.Core.Bool.{false}
 use Prim.Native.Nat.{◌-◌, ◌≤◌}
-use native.Mathlib.Numerals.{add-one}
-use native.Mathlib.Omega.{arith}
-use borrow.Author.Rules.{rules}
-use borrow.Author.Tests.{le-ltb}
-use lib.ListN.{length, get_or}
+use lib.ListN.{length}
 use Rattle.common.specs.Below.{somewhere}
 use Rattle.residual.specs.Call.{supplier_above}
-use Rattle.residual.proofs.Table.{empty_list, long_list, unknown_listed, good_list}
 use Rattle.residual.proofs.bad_list.Given as goal
 
 abbrev pub invariant-loop-i : goal.invariant-loop-i

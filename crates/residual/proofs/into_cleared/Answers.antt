@@ -1,12 +1,9 @@
 -- `residual::into_cleared` meets its contract (K5): the tests that lead to each `return` are the condition of one row (`Table`). Assumes nothing.
 use mathlib.Core.Path.{◌≡◌, sym, ◌∙◌}
-use mathlib.Core.Bool.{false}
 use native.Mathlib.Omega.{arith}
-use borrow.Author.Rules.{rules}
 use Rattle.common.specs.Lists.{sum_of}
-use Rattle.residual.specs.Spread.{Points, points, Outputs, outputs}
-use Rattle.residual.specs.Call.{bad_list, too_much}
-use Rattle.residual.proofs.Table.{Limited, limited, much_load, much_base, within_both, without, with_base, with_none, cleared_fits, cleared_same, list_met, much_met, base_met}
+use Rattle.residual.specs.Spread.{points, outputs}
+use Rattle.residual.proofs.Table.{limited, much_load, much_base, within_both, without, with_base, with_none, cleared_fits, cleared_same, list_met, much_met, base_met}
 use Rattle.residual.proofs.AddUp.{done_met}
 use Rattle.residual.proofs.Near.{spread_zero}
 use Rattle.residual.proofs.into_cleared.Goals as goal

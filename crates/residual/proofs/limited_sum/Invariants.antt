@@ -1,15 +1,9 @@
 -- What lasts in the loop of `residual::limited_sum`, and what falls (K5).
-use mathlib.Core.Path.{◌≡◌, refl, ◌∙◌, ap}
-use Prim.Native.Nat.{suc, ◌-◌, ◌≤◌}
-use native.Mathlib.Numerals.{add-one}
-use native.Mathlib.Omega.{arith}
-use borrow.Author.Rules.{rules}
-use borrow.Author.Tests.{lt-ltb, le-ltb}
+use mathlib.Core.Path.{◌≡◌}
+use Prim.Native.Nat.{◌-◌, ◌≤◌}
 use lib.ListN.{length, take}
-use lib.Seq.{take_all}
 use Rattle.common.specs.Lists.{sum_of}
 use Rattle.residual.specs.Call.{base_most}
-use Rattle.residual.proofs.Sums.{sum_more, sum_first}
 use Rattle.residual.proofs.limited_sum.Given as goal
 
 abbrev pub invariant-loop-i : goal.invariant-loop-i

@@ -2,7 +2,6 @@
 use Prim.Native.Nat.{ℕ, ◌*◌, ◌≤◌}
 use native.Mathlib.Nat.{mul-le-mul}
 use native.Mathlib.Omega.{arith}
-use borrow.Author.Rules.{rules}
 use Rattle.rounding.proofs.Laws.{half_added}
 use Rattle.statement.specs.Split.{rounded_share}
 use Rattle.residual.specs.Call.{load_most, base_most}

@@ -1,12 +1,9 @@
 -- `statement::fill_interval` meets its contract (Account and its calls). The loop's invariant is `Within` at boundary k. Assumes nothing.
-use mathlib.Core.Path.{sym, ◌∙◌}
-use Prim.Native.Nat.{◌-◌}
+use mathlib.Core.Path.{◌∙◌}
 use native.Mathlib.Omega.{arith}
-use lib.ListN.{length}
-use Rattle.account.specs.Account.{Account, account}
-use Rattle.statement.specs.Parts.{outputs}
-use Rattle.statement.proofs.CodeWritten.{Long, outputs_same, written_long}
-use Rattle.statement.proofs.CodeInterval.{Within, Room, room, starts_at, interval_summable, interval_start, within_room, within_small, within_splittable, within_addable, within_bare, within_cut, within_end_addable, within_end}
+use Rattle.account.specs.Account.{account}
+use Rattle.statement.proofs.CodeWritten.{outputs_same}
+use Rattle.statement.proofs.CodeInterval.{room, starts_at, interval_summable, interval_start, within_room, within_small, within_splittable, within_addable, within_bare, within_cut, within_end_addable, within_end}
 use Rattle.statement.proofs.fill_interval.Goals.{then-marks-k-ne0, else-marks-k-ne0}
 use Rattle.statement.proofs.fill_interval.Goals as goal
 

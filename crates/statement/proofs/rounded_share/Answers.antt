@@ -2,7 +2,6 @@
 use Prim.Native.Nat.{ℕ, ◌*◌, ◌≤◌}
 use native.Mathlib.Nat.{mul-le-mul}
 use native.Mathlib.Omega.{arith}
-use borrow.Author.Rules.{rules}
 use Rattle.rounding.proofs.Laws.{half_added}
 use Rattle.profile.specs.Limits.{span_most, weight_most}
 use Rattle.account.specs.Account.{energy_most}

@@ -1,12 +1,7 @@
 -- `statement::statement` meets its contract (Account and its calls): each way to answer is one law of CodeAnswers. Assumes nothing.
-use mathlib.Core.Path.{◌≡◌, ◌∙◌}
-use Prim.Native.Nat.{suc}
 use native.Mathlib.Omega.{arith}
-use Rattle.common.specs.Below.{how_many}
-use Rattle.account.specs.Account.{Account, account, days, shown}
-use Rattle.account.specs.Slices.{Checked}
-use Rattle.statement.specs.Parts.{Outputs, outputs}
-use Rattle.statement.specs.Call.{zeroed}
+use Rattle.account.specs.Account.{account, days}
+use Rattle.statement.specs.Parts.{outputs}
 use Rattle.statement.proofs.CodeWritten.{Long, outputs_same}
 use Rattle.statement.proofs.CodeAnswers.{met_from, met_to, met_wh, met_account, met_unsound, checked, counted, met_few, met_parts, ready}
 use Rattle.statement.proofs.statement.Goals as goal

@@ -1,6 +1,5 @@
 -- `weights::choose` meets its contract (Temperature of a day): at each `return` the tests that led there say which row of `chosen` holds.
 -- Assumes nothing.
-use borrow.Author.Rules.{rules}
 use borrow.Author.Tests.{le-leb, lt-leb}
 use mathlib.Core.Path.{refl, sym, ◌∙◌}
 use Prim.Native.Nat.{◌+◌}

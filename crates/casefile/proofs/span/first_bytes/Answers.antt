@@ -7,7 +7,6 @@ use Prim.Native.Nat.{◌+◌}
 use lib.ListN.{length, get_or}
 use Rattle.profile.specs.Limits.{profile_count}
 use Rattle.casefile.proofs.Faults.{stops, goes}
-use borrow.Author.Rules.{rules}
 use Rattle.casefile.proofs.span.first_bytes.Goals as goal
 
 pub returns-then-file-at : goal.returns-then-file-at

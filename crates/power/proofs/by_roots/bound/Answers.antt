@@ -1,7 +1,6 @@
 -- `power::by_roots::bound` meets its contract (Profile value).
 -- Assumes nothing.
 use native.Mathlib.Nat.{pos_of_ne-zero}
-use borrow.Author.Rules.{rules}
 use borrow.Author.Tests.{eq-eqb, ne_eqb, lt-ltb, le-ltb}
 use Rattle.power.specs.Power.{one, exponent, of_ratio}
 use Rattle.power.proofs.AtMostOne.{ratio_le}

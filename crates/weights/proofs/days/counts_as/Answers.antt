@@ -1,5 +1,4 @@
 -- `weights::days::counts_as` meets its contract (K1): a byte below 7 names the day, and otherwise it is its own. Assumes nothing.
-use borrow.Author.Rules.{rules}
 use native.Mathlib.Omega.{arith}
 use Rattle.weights.proofs.Calendar.{named_day, own_day}
 use Rattle.weights.proofs.days.counts_as.Goals as goal
