@@ -23,6 +23,7 @@ use Rattle.casefile.specs.Agrees.{weighing, after_day, FileAgrees, ItemTaken}
 use Rattle.casefile.proofs.Faults.{none_both, passes, number_of, number_before, Numbered, numbered, numbered_before, numbered_first, then}
 use Rattle.casefile.proofs.Weighing.{means_length_lem, means_out}
 use Rattle.casefile.proofs.Sound.{case_reading, case_cut}
+use Rattle.casefile.proofs.Together.{together}
 
 -- rows 1 and 2, then the rest
 day_first : (profile weekday : Bool) (rest : Fault) → fault_number ((fault profile 1 0 before fault weekday 2 1) before rest) ≡
@@ -83,15 +84,9 @@ span_agrees s l =
 
 pub file_agrees : FileAgrees
 file_agrees =
-    record {
-      head = head_agrees;
-      means = λ s. means_out s 2;
-      span = span_agrees;
-      reading = case_reading;
-      cut = λ s i e f.
-          let (span, readings) = none_both (span_fault s) (readings_fault s) e in
-          case_cut s i span (passes (ltb (length s) (readings_offset s + 2)) 13 (length s) _ readings).1 f;
-    }
+    together head_agrees (λ s. means_out s 2) span_agrees case_reading λ s i e f.
+    let (span, readings) = none_both (span_fault s) (readings_fault s) e in
+    case_cut s i span (passes (ltb (length s) (readings_offset s + 2)) 13 (length s) _ readings).1 f
 
 boundary_numbered : (width : ℕ) (s : List ℕ) (at n i : ℕ) → Numbered (boundary_fault width s at n i)
 boundary_numbered width s at n i =

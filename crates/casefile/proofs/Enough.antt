@@ -1,23 +1,19 @@
 -- Enough bytes (Case file): of a longer file the reader's verdict looks at no byte from 16,384 on. Assumes nothing.
 use Prim.Native.Nat.{ℕ, zero, suc, ◌+◌, ◌-◌, ◌≤◌, ◌<◌}
 use mathlib.Core.Path.{◌≡◌, refl, sym, ◌∙◌, ap}
-use mathlib.Core.Bool.{Bool, not, ◌||◌}
 use mathlib.Core.List.{List}
 use native.Mathlib.Omega.{arith}
-use native.Mathlib.Nat.{le_refl}
 use native.Mathlib.Decide.{dec_lt}
-use borrow.Author.Tests.{le-ltb, lt-ltb}
+use borrow.Author.Tests.{lt-ltb}
 use lib.Dec.{ltb, leb}
-use lib.ListN.{length, get_or, take}
+use lib.ListN.{length, take}
 use lib.Seq.{get_or-take, length-take-le, take_all}
-use Rattle.profile.specs.Limits.{profile_count, in_range, span_most, bad_span}
-use Rattle.common.specs.Below.{somewhere}
-use Rattle.account.specs.Account.{energy_most}
-use Rattle.casefile.specs.Bytes.{little, number16, signed}
-use Rattle.casefile.specs.Case.{item_at, end_at, boundary_at, reading_count_at, means_length, days_of, readings_offset, readings_length, cuts_offset, cuts_length, end_of}
-use Rattle.casefile.specs.Faults.{Fault, no_fault, refused, ◌before◌, fault, first_fault, early, fails_to_rise, first_bytes_fault, mean_fault_at, boundary_fault, cut_fault_at, reading_fault_at, section_fault, left_over, items_fault, mean_fault, head_fault, readings_fault, cuts_fault, span_fault, before_cuts_fault, sections_fault, fault_of}
+use Rattle.profile.specs.Limits.{profile_count, span_most, bad_span}
+use Rattle.casefile.specs.Bytes.{number16}
+use Rattle.casefile.specs.Case.{item_at, end_at, means_length, days_of, readings_offset, readings_length, cuts_offset, cuts_length, end_of}
+use Rattle.casefile.specs.Faults.{Fault, no_fault, refused, ◌before◌, fault, first_fault, first_bytes_fault, cut_fault_at, reading_fault_at, section_fault, left_over, items_fault, mean_fault, head_fault, readings_fault, cuts_fault, span_fault, before_cuts_fault, sections_fault, fault_of}
 use Rattle.casefile.specs.Length.{file_most, bytes_read, EnoughBytes}
-use Rattle.casefile.proofs.Numbers.{number_same}
+use Rattle.casefile.proofs.Alike.{Alike, number, whole, mean_same, boundary_same, reading_same}
 use Rattle.casefile.proofs.Faults.{none_both, passes}
 use Rattle.casefile.proofs.Weighing.{means_count_none}
 use Rattle.casefile.proofs.Longest.{few_readings, few_cuts}
@@ -32,15 +28,6 @@ first_same : (f g : ℕ → Fault) (m : ℕ) → ((i : ℕ) → i < m → f i �
 unfolding first_fault
 first_same f g zero same = refl
 first_same f g (suc m) same = λ k. first_same f g m (λ i l. same i (omega arith)) k before same m (omega arith) k
-
-some_same : (p q : ℕ → Bool) (m : ℕ) → ((i : ℕ) → i < m → p i ≡ q i) → somewhere p m ≡ somewhere q m
-unfolding somewhere
-some_same p q zero same = refl
-some_same p q (suc m) same = λ k. some_same p q m (λ i l. same i (omega arith)) k || same m (omega arith) k
-
-falls_same : (b c : ℕ → ℕ) (i : ℕ) → ((j : ℕ) → j ≤ i → b j ≡ c j) → fails_to_rise b i ≡ fails_to_rise c i
-falls_same b c zero same = refl
-falls_same b c (suc i) same = λ k. leb (same (suc i) (omega arith) k) (same i (omega arith) k)
 
 -- a fault among the first m items is the first of any more
 keeps : (f g : Fault) → (f ≡ no_fault → ⊥) → (f before g) ≡ f
@@ -73,66 +60,31 @@ within_same f g most m same h = go (dec_lt m most)
     go (yes l) = first_same f g m (λ i k. same i (omega arith))
     go (no n) = first_stays f most m (omega arith) h ∙ all ∙ sym (first_stays g most m (omega arith) (λ z. h (all ∙ z)))
 
--- two files that are the same as far as the program reads, and are that long
-record Alike (s t : List ℕ) : Type 0 where
-  same : (i : ℕ) → i < bytes_read → get_or s i 0 ≡ get_or t i 0
-  long : bytes_read ≤ length s
-  long_too : bytes_read ≤ length t
-
 module _ {s t : List ℕ} (a : Alike s t) where
-  number : (width at : ℕ) → at + width ≤ bytes_read → little width s at ≡ little width t at
-  number width at l = number_same width s t at at (λ i h. a.same (at + i) (omega arith))
-
-  -- neither ends early within what is read
-  whole : (x : ℕ) → x ≤ bytes_read → early s x ≡ early t x
-  whole x l = simp (le-ltb (length s) x (omega (arith, a.long)), le-ltb (length t) x (omega (arith, a.long_too)))
-
   head_same : head_fault s ≡ head_fault t
   head_same = λ k.
-      (whole 1 (omega arith) k before
+      (whole a 1 (omega arith) k before
       fault (leb profile_count (a.same 0 (omega arith) k)) 1 0 before
-      whole 2 (omega arith) k before
+      whole a 2 (omega arith) k before
       fault (ltb 6 (a.same 1 (omega arith) k)) 2 1) before
-      whole 4 (omega arith) k before
-      fault (bad_span (number 2 2 (omega arith) k - 3)) 3 2
-
-  mean_same : (at i : ℕ) → item_at 2 at i + 2 ≤ bytes_read → mean_fault_at s at i ≡ mean_fault_at t at i
-  mean_same at i l = λ k.
-      whole (item_at 2 at i + 2) l k before
-      fault (not (in_range (signed (number 2 (item_at 2 at i) l k)))) 4 (item_at 2 at i)
-
-  -- readings and cuts, up to the last that is read whole
-  boundary_same : (width at n i : ℕ) → ((j : ℕ) → j ≤ i → item_at width at j + 2 ≤ bytes_read) → item_at width at i + width ≤ bytes_read → boundary_fault width s at n i ≡ boundary_fault width t at n i
-  boundary_same width at n i read l =
-      let same : (j : ℕ) → j ≤ i → boundary_at width s at j ≡ boundary_at width t at j = λ j h. number 2 (item_at width at j) (read j h) in
-      λ k.
-      whole (item_at width at i + width) l k before
-      fault (falls_same (boundary_at width s at) (boundary_at width t at) i same k) 13 (item_at width at i) before
-      fault (ltb n (same i (le_refl i) k)) 6 (item_at width at i)
-
-  reading_same : (at n i : ℕ) → item_at 10 at i + 10 ≤ bytes_read → reading_fault_at s at n i ≡ reading_fault_at t at n i
-  reading_same at n i l =
-      let count : (j : ℕ) → j ≤ i → reading_count_at s at j ≡ reading_count_at t at j = λ j h. number 8 (item_at 10 at j + 2) (omega arith) in
-      λ k.
-      boundary_same 10 at n i (λ j h. omega arith) l k before
-      fault (some_same (λ j. ltb (reading_count_at s at i) (reading_count_at s at j)) (λ j. ltb (reading_count_at t at i) (reading_count_at t at j)) i (λ j h m. ltb (count i (le_refl i) m) (count j (omega arith) m)) k) 8 (item_at 10 at i + 2) before
-      fault (ltb energy_most (count i (le_refl i) k - count 0 (omega arith) k)) 9 (item_at 10 at i + 2)
+      whole a 4 (omega arith) k before
+      fault (bad_span (number a 2 2 (omega arith) k - 3)) 3 2
 
   -- a section whose items are the same up to one that cannot rise within the span
   section_same : (at most : ℕ) (f g : ℕ → Fault) → at + 2 ≤ bytes_read → ((i : ℕ) → i < most → f i ≡ g i) → (first_fault f most ≡ no_fault → ⊥) → section_fault s at f ≡ section_fault t at g
   section_same at most f g l same h =
-      let items = within_same f g most (number16 s at) same h ∙ ap (first_fault g) (number 2 at l) in
-      λ k. whole (at + 2) l k before items k
+      let items = within_same f g most (number16 s at) same h ∙ ap (first_fault g) (number a 2 at l) in
+      λ k. whole a (at + 2) l k before items k
 
   means_counted : means_length s ≡ means_length t
-  means_counted = number 2 2 (omega arith)
+  means_counted = number a 2 2 (omega arith)
 
   module _ (h : head_fault s ≡ no_fault) where
     span : days_of s ≤ span_most
     span = (means_count_none s 2 (none_both (first_bytes_fault s 0) _ h).1).1.most
 
     means_same : items_fault s 2 (mean_fault s) ≡ items_fault t 2 (mean_fault t)
-    means_same = first_same (mean_fault s) (mean_fault t) (means_length s) (λ i l. mean_same 2 i (omega (arith, span))) ∙ ap (first_fault (mean_fault t)) means_counted
+    means_same = first_same (mean_fault s) (mean_fault t) (means_length s) (λ i l. mean_same a 2 i (omega (arith, span))) ∙ ap (first_fault (mean_fault t)) means_counted
 
     -- the readings, which start at the same offset
     readings_offset_lem : readings_offset s ≡ readings_offset t
@@ -140,7 +92,7 @@ module _ {s t : List ℕ} (a : Alike s t) where
 
     readings_same : readings_fault s ≡ readings_fault t
     readings_same =
-        section_same (readings_offset s) (span_most + 2) _ _ (omega (arith, span)) (λ i l. reading_same (readings_offset s) (days_of s) i (omega (arith, span)))
+        section_same (readings_offset s) (span_most + 2) _ _ (omega (arith, span)) (λ i l. reading_same a (readings_offset s) (days_of s) i (omega (arith, span)))
         (λ z. omega (arith, span, few_readings s (readings_offset s) (days_of s) (span_most + 2) z)) ∙
         (λ k. section_fault t (readings_offset_lem k) (reading_fault_at t (readings_offset_lem k) (means_counted k - 3)))
 
@@ -150,11 +102,11 @@ module _ {s t : List ℕ} (a : Alike s t) where
 
       -- the cuts, likewise
       cuts_offset_lem : cuts_offset s ≡ cuts_offset t
-      cuts_offset_lem = ap (item_at 10 (readings_offset s)) (number 2 (readings_offset s) (omega (arith, span))) ∙ ap (end_at 10 t) readings_offset_lem
+      cuts_offset_lem = ap (item_at 10 (readings_offset s)) (number a 2 (readings_offset s) (omega (arith, span))) ∙ ap (end_at 10 t) readings_offset_lem
 
       cuts_same : cuts_fault s ≡ cuts_fault t
       cuts_same =
-          section_same (cuts_offset s) (span_most + 2) _ _ (omega (arith, near)) (λ i l. boundary_same 2 (cuts_offset s) (days_of s) i (λ j h. omega (arith, near)) (omega (arith, near)))
+          section_same (cuts_offset s) (span_most + 2) _ _ (omega (arith, near)) (λ i l. boundary_same a 2 (cuts_offset s) (days_of s) i (λ j h. omega (arith, near)) (omega (arith, near)))
           (λ z. omega (arith, span, few_cuts s (cuts_offset s) (days_of s) (span_most + 2) z)) ∙
           (λ k. section_fault t (cuts_offset_lem k) (cut_fault_at t (cuts_offset_lem k) (means_counted k - 3)))
 
@@ -163,7 +115,7 @@ module _ {s t : List ℕ} (a : Alike s t) where
       left_same c =
           let items = (passes (ltb (length s) (cuts_offset s + 2)) 13 (length s) _ c).1 in
           let end : end_of s ≤ file_most = omega (arith, near, span, few_cuts s (cuts_offset s) (days_of s) (cuts_length s) items) in
-          let ends : end_of s ≡ end_of t = ap (item_at 2 (cuts_offset s)) (number 2 (cuts_offset s) (omega (arith, near))) ∙ ap (end_at 2 t) cuts_offset_lem in
+          let ends : end_of s ≡ end_of t = ap (item_at 2 (cuts_offset s)) (number a 2 (cuts_offset s) (omega (arith, near))) ∙ ap (end_at 2 t) cuts_offset_lem in
           let both = lt-ltb (end_of s) (length s) (omega (arith, a.long)) ∙ sym (lt-ltb (end_of t) (length t) (omega (arith, a.long_too, ends))) in
           λ k. fault (both k) 13 (ends k)
 

@@ -10,8 +10,10 @@ pub mod Chained
 pub mod Answered
 pub mod Ordered
 pub mod Sound
+pub mod Together
 pub mod Agreed
 pub mod Taken
 pub mod LongestTaken
 pub mod Longest
+pub mod Alike
 pub mod Enough

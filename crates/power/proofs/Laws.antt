@@ -13,6 +13,7 @@ use Rattle.power.proofs.Way.{Rounded, below, above, at_most, at_least}
 use Rattle.power.proofs.Quotient.{quotient_rounded}
 use Rattle.power.proofs.AtMostOne.{ratio_le, ratio_one_lem, power_le, power_one}
 use Rattle.power.proofs.Enclosing.{exact, power_reached}
+use Rattle.power.proofs.Ratio.{encloses}
 
 -- the exponent is rounded against the power
 c_high_rounded : (C : ℕ) → Rounded Down (C * 2 ^ 24) (c_high C * 10 ^ 7)
@@ -26,12 +27,11 @@ c_low_rounded C = above (at_most (quotient_rounded Down (C * 2 ^ 24) (10 ^ 7) (l
 module _ (N M C : ℕ) (pos : 0 < M) where
   module _ (le : N ≤ M) where
     pub enclosed : Encloses N M C (p_low N M C) (p_high N M C)
-    unfolding p_low p_high AtMost AtLeast
+    unfolding p_low p_high
     enclosed =
-        record {
-          below = at_most (exact N M C (2 ^ 24) (10 ^ 7) le pos (lit< tt) (quotient_rounded Down (N * one) M pos) (c_high_rounded C) (power_reached _ _));
-          above = at_least (exact N M C (2 ^ 24) (10 ^ 7) le pos (lit< tt) (quotient_rounded Up (N * one) M pos) (c_low_rounded C) (power_reached _ _));
-        }
+        encloses
+        (exact N M C (2 ^ 24) (10 ^ 7) le pos (lit< tt) (quotient_rounded Down (N * one) M pos) (c_high_rounded C) (power_reached _ _))
+        (exact N M C (2 ^ 24) (10 ^ 7) le pos (lit< tt) (quotient_rounded Up (N * one) M pos) (c_low_rounded C) (power_reached _ _))
 
     pub low_le_high : p_low N M C ≤ p_high N M C
     unfolding AtMost AtLeast

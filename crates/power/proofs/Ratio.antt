@@ -1,11 +1,19 @@
--- What the enclosing says where the exact power is the ratio itself, at C = 10^7 (Profile value). Assumes nothing.
+-- What the enclosing says (Profile value): of two roundings of the exact power, and where that is the ratio itself, at C = 10^7.
+-- Assumes nothing.
 use mathlib.Core.Path.{sym, subst₂}
 use mathlib.Core.Logic.{◌↔◌}
 use Prim.Native.Nat.{ℕ, ◌*◌, ◌^◌, ◌≤◌, ◌<◌}
 use native.Mathlib.Nat.{pow-le-pow_left}
 use lib.Dec.{lit<}
-use Rattle.power.specs.Power.{one, AtMost, AtLeast, AtTheRatio}
+use Rattle.power.specs.declared.rounded.Rounding.TheVariants.{Down, Up}
+use Rattle.power.specs.Power.{one, AtMost, AtLeast, Encloses, AtTheRatio}
 use Rattle.power.proofs.Powers.{mul_pow, pow_cancel}
+use Rattle.power.proofs.Way.{Rounded, at_most, at_least}
+
+-- the exact power rounded down and rounded up
+pub encloses : {N M C p q : ℕ} → Rounded Down (p ^ (10 ^ 7) * M ^ C) (N ^ C * one ^ (10 ^ 7)) → Rounded Up (q ^ (10 ^ 7) * M ^ C) (N ^ C * one ^ (10 ^ 7)) → Encloses N M C p q
+unfolding AtMost AtLeast
+encloses low high = record { below = at_most low; above = at_least high }
 
 -- two products are in the order of their k-th powers
 in_order : (a b c d k : ℕ) → 0 < k → (a ^ k * b ^ k ≤ c ^ k * d ^ k) ↔ (a * b ≤ c * d)

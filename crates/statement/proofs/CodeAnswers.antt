@@ -14,7 +14,7 @@ use Rattle.common.specs.Rows.{row}
 use Rattle.account.specs.Refusals.{account_rows}
 use Rattle.account.proofs.Rows as rows
 use Rattle.statement.specs.Parts.{Outputs}
-use Rattle.statement.specs.Call.{StatementMet, unfit_outputs, zeroed}
+use Rattle.statement.specs.Call.{StatementMet, unfit_outputs, zeroed, ruling}
 use Rattle.statement.specs.Progress.{Fillable, Filled}
 use Rattle.statement.proofs.CodeSound.{checked_fit}
 use Rattle.statement.proofs.CodeWritten.{Long, outputs_same}
@@ -66,11 +66,11 @@ module _ (a : Account) (o : Outputs) where
       let f = long_fit (days a) o l in
       record { answers = rw (f, b.0, b.1); gives = rw (f, b.0, b.1); stays = refl; writes = rw (f, b.0, b.1) }
 
-  pub met_few : Long (days a) o → Checked a → how_many (shown a).readings.at (suc (days a)) < 2 → (o' : Outputs) → o' ≡ zeroed o → StatementMet a o 11 0 a o'
+  pub met_few : Long (days a) o → Checked a → how_many (shown a).readings.at (suc (days a)) < 2 → (o' : Outputs) → o' ≡ (ruling a o).memory → StatementMet a o 11 0 a o'
   met_few l c few o' clear =
       let f = long_fit (days a) o l in
       let less = lt-ltb _ _ few in
-      record { answers = rw (f, c.fits, c.sound, less); gives = rw (f, c.fits, c.sound, less); stays = refl; writes = rw (f, c.fits, c.sound, less) clear }
+      record { answers = rw (f, c.fits, c.sound, less); gives = rw (f, c.fits, c.sound, less); stays = refl; writes = clear }
 
   pub met_parts : Long (days a) o → Checked a → 2 ≤ how_many (shown a).readings.at (suc (days a)) → (o' : Outputs) (r : ℕ) → Filled a o' r → StatementMet a o 0 r a o'
   met_parts l c some o' r h =

@@ -21,6 +21,7 @@ use Rattle.statement.proofs.Has.{has_reading, has_between}
 use Rattle.statement.proofs.Near.{near}
 use Rattle.statement.proofs.Parts.{energy_written, each_written}
 use Rattle.statement.proofs.Telescope.{lies, telescopes}
+use Rattle.statement.proofs.Together.{share}
 
 -- where every part lies between a and b, the total is the energy between them
 total_energy : (o : Outputs) (a b m : ℕ) → ((i : ℕ) → i < m → (a ≤ get_or o.from i 0) × (get_or o.to i 0 ≤ b)) → total o m ≡ energy o a b m
@@ -60,14 +61,7 @@ shared w s valid two =
     each_written w s (Shared w s.readings) λ k ends.
     let l = lies w s (some_read (length w) s.readings two) k ends in
     let e = l.encloses in
-    record {
-      p = earlier s.readings k;
-      q = later (length w) s.readings k;
-      adjacent = e.adjacent;
-      starts = l.starts;
-      ends = e.upto;
-      near = near w s.readings valid _ _ e.adjacent e.inside _ k l.starts (omega arith) e.upto;
-    }
+    share (earlier s.readings k) (later (length w) s.readings k) e.adjacent l.starts e.upto (near w s.readings valid _ _ e.adjacent e.inside _ k l.starts (omega arith) e.upto)
 
 module _ (w : List ℕ) (s : Stands) (valid : Valid w s.readings) where
   -- the energy between a reading and a marked boundary is the boundary's share of what the next reading has more

@@ -5,6 +5,7 @@ pub mod Has
 pub mod Near
 pub mod Parts
 pub mod Telescope
+pub mod Together
 pub mod Successive
 pub mod Facts
 pub mod CodeSums

@@ -16,6 +16,7 @@ use Rattle.statement.specs.Shares.{Adjacent}
 use Rattle.statement.specs.Facts.{bounds_part, Successive, PartsSuccessive, OneSuccession}
 use Rattle.statement.proofs.Order.{Read, some_read}
 use Rattle.statement.proofs.Parts.{Ends, is_end, below_part, below_none, none_until, none_more, no_part, written_at, each_written}
+use Rattle.statement.proofs.Together.{succession}
 
 -- these parts run from a to b, each from where the one before ends
 abbrev Runs : ℕ → List Part → ℕ → Type 0
@@ -135,15 +136,13 @@ successive w s two =
     let number = counted w s is (suc n) (omega (arith, is.first.below)) in
     let some : 0 < length ps =
     omega (arith, two, many_more s.readings.at (bounds_part n s) (suc n) (bounds_at w s is)) in
-    record {
-      not_empty = some;
-      starts = written_at (λ x. x.from) n ps 0 some ∙ runs_first _ _ ps run some;
-      ends = written_at (λ x. x.to) n ps (length ps - 1) (omega arith) ∙ runs_last _ _ ps run (length ps - 1) (omega arith);
-      joined =
-          λ i h. written_at (λ x. x.from) n ps (suc i) h ∙ runs_next _ _ ps run i h ∙ sym (written_at (λ x. x.to) n ps i (omega arith));
-      each = each_written w s (λ from to wh. Adjacent (marked s) from to) (each_adjacent w s is);
-      in_number = number;
-    }
+    succession
+    some
+    (written_at (λ x. x.from) n ps 0 some ∙ runs_first _ _ ps run some)
+    (written_at (λ x. x.to) n ps (length ps - 1) (omega arith) ∙ runs_last _ _ ps run (length ps - 1) (omega arith))
+    (λ i h. written_at (λ x. x.from) n ps (suc i) h ∙ runs_next _ _ ps run i h ∙ sym (written_at (λ x. x.to) n ps i (omega arith)))
+    (each_written w s (λ from to wh. Adjacent (marked s) from to) (each_adjacent w s is))
+    number
 
 -- after a boundary one is the next
 next_one : (at : ℕ → Bool) (p q₁ q₂ : ℕ) → Adjacent at p q₁ → Adjacent at p q₂ → q₁ ≡ q₂

@@ -1,9 +1,12 @@
 -- `statement::statement` meets its contract (Account and its calls): each way to answer is one law of CodeAnswers. Assumes nothing.
 use native.Mathlib.Omega.{arith}
-use Rattle.account.specs.Account.{account, days}
+use borrow.Author.Tests.{lt-ltb}
+use Prim.Native.Nat.{suc, ◌<◌}
+use Rattle.common.specs.Below.{how_many}
+use Rattle.account.specs.Account.{account, days, shown}
 use Rattle.statement.specs.Parts.{outputs}
 use Rattle.statement.proofs.CodeWritten.{Long, outputs_same}
-use Rattle.statement.proofs.CodeAnswers.{met_from, met_to, met_wh, met_account, met_unsound, checked, counted, met_few, met_parts, ready}
+use Rattle.statement.proofs.CodeAnswers.{met_from, met_to, met_wh, met_account, met_unsound, checked, counted, long_fit, met_few, met_parts, ready}
 use Rattle.statement.proofs.statement.Goals as goal
 
 pub returns-then-from-n : goal.returns-then-from-n
@@ -26,8 +29,9 @@ returns-then-count_readings-lt2 c =
     let a = account c.args.weights.now c.args.marks.now c.args.counts.now in
     let long : Long (days a) (outputs c.args.from.now c.args.to.now c.args.wh.now) = record { from = c.if-from-n.false; to = c.if-to-n.false; wh = c.if-wh-n.false } in
     let sound = checked a _ c.check-refused.ensures.check_met.answers c.if-refused-ne0.false in
-    met_few _ _ long sound (omega (arith, counted a sound _ c.count_readings.ensures)) _
-    (outputs_same c.clear_u16.ensures c.clear_u16-2.ensures c.clear_u64.ensures)
+    let few : how_many (shown a).readings.at (suc (days a)) < 2 = omega (arith, counted a sound _ c.count_readings.ensures) in
+    met_few _ _ long sound few _
+    (rw (long_fit _ _ long, sound.fits, sound.sound, lt-ltb _ _ few) (outputs_same c.clear_u16.ensures c.clear_u16-2.ensures c.clear_u64.ensures))
 
 pub fill-parts-requires : goal.fill-parts-requires
 fill-parts-requires c =
