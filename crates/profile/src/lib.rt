@@ -97,6 +97,7 @@ impl Profile {
 }
 
 // Whether one mean or temperature is in range.
+#[tactic(auto, unfolding(crate::specs::Limits::in_range))]
 pub fn in_range(t: i16) -> bool
     ensures { result ≡ in_range t }
 {

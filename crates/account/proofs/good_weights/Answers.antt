@@ -4,7 +4,7 @@ use native.Mathlib.Numerals.{add-one}
 use native.Mathlib.Omega.{arith}
 use mathlib.Core.Path.{◌≡◌, refl, sym, subst}
 use mathlib.Core.List.{List}
-use mathlib.Core.Bool.{true, false}
+use mathlib.Core.Bool.{true, false, and-false}
 use borrow.Author.Tests.{le-leb, lt-leb}
 use lib.ListN.{length, get_or}
 use Rattle.profile.specs.Limits.{weight_least, weight_most}
@@ -17,8 +17,8 @@ use Rattle.account.proofs.good_weights.Goals as goal
 light : (x : ℕ) → x < weight_least → good_weight x ≡ false
 light x h = rw (lt-leb weight_least x h)
 
-heavy : (x : ℕ) → weight_least ≤ x → weight_most < x → good_weight x ≡ false
-heavy x l h = rw (le-leb weight_least x l, lt-leb x weight_most h)
+heavy : (x : ℕ) → weight_most < x → good_weight x ≡ false
+heavy x h = simp (lt-leb x weight_most h, and-false)
 
 good : (x : ℕ) → weight_least ≤ x → x ≤ weight_most → good_weight x ≡ true
 good x l h = rw (le-leb weight_least x l, le-leb x weight_most h)
@@ -35,10 +35,10 @@ pub loop-d-init : goal.loop-d-init
 loop-d-init c = (omega arith, every_zero _)
 
 pub returns-then-x-lt-WEIGHT_LEAST : goal.returns-then-x-lt-WEIGHT_LEAST
-returns-then-x-lt-WEIGHT_LEAST c = fails _ _ c.loop-d-test.true (light _ c.if-x-lt-WEIGHT_LEAST.true)
+returns-then-x-lt-WEIGHT_LEAST c = fails _ _ c.loop-d-test.true (light (get_or c.args.weights.now c.loop-d.d 0) (omega (arith, c.if-x-lt-WEIGHT_LEAST.true)))
 
 pub returns-then-x-gt-WEIGHT_MOST : goal.returns-then-x-gt-WEIGHT_MOST
-returns-then-x-gt-WEIGHT_MOST c = fails _ _ c.loop-d-test.true (heavy _ c.if-x-lt-WEIGHT_LEAST.false c.if-x-gt-WEIGHT_MOST.true)
+returns-then-x-gt-WEIGHT_MOST c = fails _ _ c.loop-d-test.true (heavy (get_or c.args.weights.now c.loop-d.d 0) (omega (arith, c.if-x-gt-WEIGHT_MOST.true)))
 
 pub loop-d-preserved : goal.loop-d-preserved
 loop-d-preserved c =

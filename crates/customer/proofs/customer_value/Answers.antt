@@ -3,6 +3,7 @@ use mathlib.Core.Path.{◌≡◌, refl, sym, ap, ◌∙◌}
 use mathlib.Core.Bool.{false, true}
 use mathlib.Core.List.{List}
 use Prim.Native.Nat.{ℕ, ◌*◌, ◌≤◌}
+use native.Mathlib.Omega.{arith}
 use borrow.Author.Tests.{le-leb, lt-leb, lt-ltb, le-ltb}
 use lib.Dec.{ltb}
 use lib.ListN.{length}
@@ -39,7 +40,7 @@ returns-then-energy-gt-ENERGY_MOST c =
     let a = c.args in
     let span = spanned a.weights.now c.if-n-lt-SPAN_LEAST.false c.if-n-gt-SPAN_MOST.false in
     let good = sym c.good_weights.ensures.gives ∙ c.if-not-good_weights.false in
-    let much = lt-ltb 2_000_000_000 a.energy c.if-energy-gt-ENERGY_MOST.true in
+    let much = lt-ltb 2_000_000_000 a.energy (omega (arith, c.if-energy-gt-ENERGY_MOST.true)) in
     record { answers = simp (span, good, much); gives = simp (span, good, much); stays = refl }
 
 -- what is known where a value was computed: rows 3, 5 and 9 do not hold, and it is the rule's

@@ -1,8 +1,9 @@
 -- `layout::statement_text` meets its contract (Case file): nothing where no statement can be like that, else its text. Assumes nothing.
-use mathlib.Core.Path.{◌≡◌, sym, ◌∙◌}
+use mathlib.Core.Path.{◌≡◌, refl, sym, ◌∙◌}
+use mathlib.Core.Bool.{or-true}
 use mathlib.Core.List.{List}
 use Prim.Native.Nat.{ℕ, ◌≤◌}
-use borrow.Author.Tests.{lt-ltb, le-ltb, eq-eqb, ne_eqb}
+use borrow.Author.Tests.{lt-ltb, le-ltb, ne_eqb}
 use lib.Dec.{ltb}
 use lib.ListN.{length, get_or}
 use Rattle.profile.specs.Limits.{span_most}
@@ -24,39 +25,37 @@ pub returns-then-parts-eq0 : goal.returns-then-parts-eq0
 returns-then-parts-eq0 c =
     let a = c.args in
     none_laid (outputs a.from.now a.to.now a.wh.now) a.parts _
-    (simp (eq-eqb a.parts 0 c.if-parts-eq0.true))
+    (rw c.if-parts-eq0.true refl)
 
 pub returns-then-parts-gt-SPAN_MOST : goal.returns-then-parts-gt-SPAN_MOST
 returns-then-parts-gt-SPAN_MOST c =
     let a = c.args in
     none_laid (outputs a.from.now a.to.now a.wh.now) a.parts _
-    (simp (ne_eqb a.parts 0 c.if-parts-eq0.false, lt-ltb span_most a.parts c.if-parts-gt-SPAN_MOST.true))
+    (simp (lt-ltb span_most a.parts c.if-parts-gt-SPAN_MOST.true, or-true))
 
 pub returns-then-from-parts : goal.returns-then-from-parts
 returns-then-from-parts c =
     let a = c.args in
     none_laid (outputs a.from.now a.to.now a.wh.now) a.parts _
-    (simp (ne_eqb a.parts 0 c.if-parts-eq0.false, le-ltb span_most a.parts c.if-parts-gt-SPAN_MOST.false, lt-ltb (length a.from.now) a.parts c.if-from-parts.true))
+    (simp (lt-ltb (length a.from.now) a.parts c.if-from-parts.true, or-true))
 
 pub returns-then-to-parts : goal.returns-then-to-parts
 returns-then-to-parts c =
     let a = c.args in
     none_laid (outputs a.from.now a.to.now a.wh.now) a.parts _
-    (simp (ne_eqb a.parts 0 c.if-parts-eq0.false, le-ltb span_most a.parts c.if-parts-gt-SPAN_MOST.false, le-ltb (length a.from.now) a.parts c.if-from-parts.false, lt-ltb (length a.to.now) a.parts c.if-to-parts.true))
+    (simp (lt-ltb (length a.to.now) a.parts c.if-to-parts.true, or-true))
 
 pub returns-then-wh-parts : goal.returns-then-wh-parts
 returns-then-wh-parts c =
     let a = c.args in
     none_laid (outputs a.from.now a.to.now a.wh.now) a.parts _
-    (simp (ne_eqb a.parts 0 c.if-parts-eq0.false, le-ltb span_most a.parts c.if-parts-gt-SPAN_MOST.false, le-ltb (length a.from.now) a.parts c.if-from-parts.false, le-ltb (length a.to.now) a.parts c.if-to-parts.false, lt-ltb (length a.wh.now) a.parts c.if-wh-parts.true))
+    (simp (lt-ltb (length a.wh.now) a.parts c.if-wh-parts.true, or-true))
 
 pub returns-then-part_too_great : goal.returns-then-part_too_great
 returns-then-part_too_great c =
     let a = c.args in
     none_laid (outputs a.from.now a.to.now a.wh.now) a.parts _
-    (in_order a.from.now a.to.now a.wh.now a.parts c.if-parts-eq0.false c.if-parts-gt-SPAN_MOST.false c.if-from-parts.false c.if-to-parts.false c.if-wh-parts.false ∙
-    sym c.part_too_great.ensures ∙
-    c.if-part_too_great.true)
+    (simp (sym c.part_too_great.ensures ∙ c.if-part_too_great.true, or-true))
 
 pub total-requires : goal.total-requires
 total-requires c = (search rules, search rules, sym c.part_too_great.ensures ∙ c.if-part_too_great.false)

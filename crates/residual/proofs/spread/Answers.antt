@@ -14,7 +14,7 @@ returns-then-amounts-n c =
 
 pub returns-then-totals-ne64 : goal.returns-then-totals-ne64
 returns-then-totals-ne64 c =
-    unfit_met c.args.load (points c.args.suppliers.now c.args.bases.now) (outputs c.args.amounts.now c.args.totals.now) (other_totals (points c.args.suppliers.now c.args.bases.now) (outputs c.args.amounts.now c.args.totals.now) c.if-totals-ne64.true)
+    unfit_met c.args.load (points c.args.suppliers.now c.args.bases.now) (outputs c.args.amounts.now c.args.totals.now) (other_totals (points c.args.suppliers.now c.args.bases.now) (outputs c.args.amounts.now c.args.totals.now) (omega (arith, c.if-totals-ne64.true)))
 
 pub into_cleared-requires : goal.into_cleared-requires
 into_cleared-requires c =

@@ -1,5 +1,6 @@
 -- `weights::choose` meets its contract (Temperature of a day): at each `return` the tests that led there say which row of `chosen` holds.
 -- Assumes nothing.
+use native.Mathlib.Omega.{arith}
 use borrow.Author.Tests.{le-leb, lt-leb}
 use mathlib.Core.Path.{refl, sym, ◌∙◌}
 use Prim.Native.Nat.{◌+◌}
@@ -16,7 +17,7 @@ returns-then-n-lt-SPAN_LEAST c =
 pub returns-then-n-gt-SPAN_MOST : goal.returns-then-n-gt-SPAN_MOST
 returns-then-n-gt-SPAN_MOST c =
     let e = le-leb 1 _ c.if-n-lt-SPAN_LEAST.false in
-    let f = lt-leb _ span_most c.if-n-gt-SPAN_MOST.true in
+    let f = lt-leb c.args.n span_most (omega (arith, c.if-n-gt-SPAN_MOST.true)) in
     record { start_is = simp (e, f); means_are = simp (e, f); measured_stays = refl; forecast_stays = refl }
 
 pub slice_bounds-result-end-then-serves : goal.slice_bounds-result-end-then-serves

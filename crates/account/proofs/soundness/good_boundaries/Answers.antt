@@ -5,6 +5,7 @@ use native.Mathlib.Numerals.{add-one}
 use native.Mathlib.Omega.{arith}
 use mathlib.Core.Path.{◌≡◌, sym, subst, ◌∙◌}
 use lib.ListN.{length}
+use Rattle.account.specs.Account.{account}
 use Rattle.account.proofs.Pass.{Passed, passed_none, passed_reading, passed_other, passed_all, bad_mark, bad_count, bad_order}
 use Rattle.account.proofs.soundness.good_boundaries.Goals as goal
 use Rattle.account.proofs.soundness.good_boundaries.Goals.{then-is_reading+else-c-last, else-is_reading+else-c-ne0}
@@ -13,7 +14,7 @@ pub loop-k-init : goal.loop-k-init
 loop-k-init c = (omega arith, passed_none _)
 
 pub returns-then-m-gt3 : goal.returns-then-m-gt3
-returns-then-m-gt3 c = sym (bad_mark _ _ 0 (omega arith) c.if-m-gt3.true)
+returns-then-m-gt3 c = sym (bad_mark (account c.args.weights.now c.args.marks.now c.args.counts.now) c.loop-k.k 0 (omega arith) (omega (arith, c.if-m-gt3.true)))
 
 pub returns-then-c-last : goal.returns-then-c-last
 returns-then-c-last c =

@@ -5,7 +5,7 @@ use Rattle.weights.proofs.days.counts_as.Goals as goal
 
 pub returns-then-byte-lt7 : goal.returns-then-byte-lt7
 returns-then-byte-lt7 c =
-    omega (arith, named_day c.args.weekday c.args.calendar.now c.args.k c.requires.1 c.if-byte-lt7.true)
+    omega (arith, named_day c.args.weekday c.args.calendar.now c.args.k c.requires.1 (omega (arith, c.if-byte-lt7.true)))
 
 pub returns : goal.returns
 returns c =

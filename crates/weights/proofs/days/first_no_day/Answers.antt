@@ -27,7 +27,7 @@ returns-then-calendar-k-gt7 c =
     let at = c.loop-k in
     let s = c.args.calendar.now in
     let h = c.loop-k-test.true in
-    sym (first_at (no_day s) (length s) at.k h at.invariant.1 (above s at.k h c.if-calendar-k-gt7.true))
+    sym (first_at (no_day s) (length s) at.k h at.invariant.1 (above s at.k h (omega (arith, c.if-calendar-k-gt7.true))))
 
 pub loop-k-preserved : goal.loop-k-preserved
 loop-k-preserved c =
