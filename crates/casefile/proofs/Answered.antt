@@ -37,7 +37,7 @@ fit a l = simp (eq-eqb (length a.weights) span_most l.weights, eq-eqb (length a.
 pub unfit_met : (s : List ℕ) (lent : Account) → unfit_slices lent ≡ true → ReadMet s lent 3 0 0 lent s
 unfit_met s lent u = record { answers = rw u refl; places = rw u refl; gives = rw u refl; writes = rw u refl; stays = refl }
 
--- slices that were cleared
+-- a slice that was cleared
 pub clear_is : {n : ℕ} (lent : List ℕ) {after : List ℕ} → after ≡ replicate (length lent) 0 → length lent ≡ n → Clear n after
 clear_is lent {after} e l =
     let same : length after ≡ length lent = ap length e ∙ length-replicate (length lent) 0 in

@@ -1,4 +1,5 @@
--- What specs/Agrees says of a file's refusals (If a call declines), item by item, as one record. Assumes nothing.
+-- What specs/Agrees says of a file's refusals (If a call declines), item by item, as one record. It stands apart from the proofs of
+-- the items, since must-fail edits change a field here. Assumes nothing.
 use Prim.Native.Nat.{ℕ, ◌+◌, ◌≤◌}
 use mathlib.Core.Path.{◌≡◌}
 use mathlib.Core.Bool.{false}

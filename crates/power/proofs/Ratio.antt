@@ -1,4 +1,4 @@
--- What the enclosing says (Profile value): of two roundings of the exact power, and where that is the ratio itself, at C = 10^7.
+-- The exact power rounded down and up encloses it, and what the enclosing says where it is the ratio itself, at C = 10^7 (Profile value).
 -- Assumes nothing.
 use mathlib.Core.Path.{sym, subst₂}
 use mathlib.Core.Logic.{◌↔◌}
@@ -10,7 +10,7 @@ use Rattle.power.specs.Power.{one, AtMost, AtLeast, Encloses, AtTheRatio}
 use Rattle.power.proofs.Powers.{mul_pow, pow_cancel}
 use Rattle.power.proofs.Way.{Rounded, at_most, at_least}
 
--- the exact power rounded down and rounded up
+-- the exact power, rounded down and rounded up, is enclosed
 pub encloses : {N M C p q : ℕ} → Rounded Down (p ^ (10 ^ 7) * M ^ C) (N ^ C * one ^ (10 ^ 7)) → Rounded Up (q ^ (10 ^ 7) * M ^ C) (N ^ C * one ^ (10 ^ 7)) → Encloses N M C p q
 unfolding AtMost AtLeast
 encloses low high = record { below = at_most low; above = at_least high }

@@ -67,10 +67,10 @@ module _ (a : Account) (o : Outputs) where
       record { answers = rw (f, b.0, b.1); gives = rw (f, b.0, b.1); stays = refl; writes = rw (f, b.0, b.1) }
 
   pub met_few : Long (days a) o → Checked a → how_many (shown a).readings.at (suc (days a)) < 2 → (o' : Outputs) → o' ≡ (ruling a o).memory → StatementMet a o 11 0 a o'
-  met_few l c few o' clear =
+  met_few l c few o' writes =
       let f = long_fit (days a) o l in
       let less = lt-ltb _ _ few in
-      record { answers = rw (f, c.fits, c.sound, less); gives = rw (f, c.fits, c.sound, less); stays = refl; writes = clear }
+      record { answers = rw (f, c.fits, c.sound, less); gives = rw (f, c.fits, c.sound, less); stays = refl; writes = writes }
 
   pub met_parts : Long (days a) o → Checked a → 2 ≤ how_many (shown a).readings.at (suc (days a)) → (o' : Outputs) (r : ℕ) → Filled a o' r → StatementMet a o 0 r a o'
   met_parts l c some o' r h =

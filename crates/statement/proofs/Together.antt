@@ -1,5 +1,5 @@
 -- A part's share and a succession of parts (Account and its calls, "Statement"), each of all that specs/Shares and specs/Facts ask of it.
--- Assumes nothing.
+-- They stand apart from the proofs of what is asked, since must-fail edits change a field here. Assumes nothing.
 use Prim.Native.Nat.{ℕ, suc, ◌-◌, ◌≤◌, ◌<◌}
 use mathlib.Core.Path.{◌≡◌}
 use mathlib.Core.List.{List}

@@ -1,4 +1,5 @@
--- `statement::statement` meets its contract (Account and its calls): each way to answer is one law of CodeAnswers. Assumes nothing.
+-- `statement::statement` meets its contract (Account and its calls): each way to answer is one law of CodeAnswers, and 11 finds
+-- its outputs zero. Assumes nothing.
 use native.Mathlib.Omega.{arith}
 use borrow.Author.Tests.{lt-ltb}
 use Prim.Native.Nat.{suc, ◌<◌}

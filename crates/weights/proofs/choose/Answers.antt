@@ -2,12 +2,19 @@
 -- Assumes nothing.
 use native.Mathlib.Omega.{arith}
 use borrow.Author.Tests.{le-leb, lt-leb}
-use mathlib.Core.Path.{refl, sym, ◌∙◌}
+use mathlib.Core.Path.{◌≡◌, refl, sym, ◌∙◌}
+use mathlib.Core.Bool.{Bool, true, false, cond}
 use Prim.Native.Nat.{◌+◌}
 use lib.Seq.{length-take-le}
 use Rattle.profile.specs.Limits.{span_most}
+use Rattle.weights.specs.Choose.{Neither}
 use Rattle.weights.proofs.Series.{serves_long}
 use Rattle.weights.proofs.choose.Goals as goal
+
+-- where neither series serves, the span decides nothing
+neither_way : (b : Bool) → cond b Neither Neither ≡ Neither
+neither_way true = refl
+neither_way false = refl
 
 pub returns-then-n-lt-SPAN_LEAST : goal.returns-then-n-lt-SPAN_LEAST
 returns-then-n-lt-SPAN_LEAST c =
@@ -48,7 +55,6 @@ returns-then-serves-2 c =
 pub returns : goal.returns
 returns c =
     let e = le-leb 1 _ c.if-n-lt-SPAN_LEAST.false in
-    let inside = le-leb _ span_most c.if-n-gt-SPAN_MOST.false in
     let m = sym c.serves.ensures ∙ c.if-serves.false in
     let p = sym c.serves-2.ensures ∙ c.if-serves-2.false in
-    record { start_is = simp (e, inside, m, p); means_are = simp (e, inside, m, p); measured_stays = refl; forecast_stays = refl }
+    record { start_is = simp (e, m, p, neither_way); means_are = simp (e, m, p, neither_way); measured_stays = refl; forecast_stays = refl }

@@ -9,4 +9,4 @@ returns-then-byte-lt7 c =
 
 pub returns : goal.returns
 returns c =
-    omega (arith, own_day c.args.weekday c.args.calendar.now c.args.k c.requires.1 c.if-byte-lt7.false)
+    omega (arith, own_day c.args.weekday c.args.calendar.now c.args.k c.requires.1 (omega (arith, c.if-byte-lt7.false)))

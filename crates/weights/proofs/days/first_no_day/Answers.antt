@@ -33,7 +33,7 @@ pub loop-k-preserved : goal.loop-k-preserved
 loop-k-preserved c =
     let at = c.loop-k in
     let s = c.args.calendar.now in
-    (omega arith, rw add-one (some_none (no_day s) at.k at.invariant.1 (upto s at.k c.loop-k-test.true c.if-calendar-k-gt7.false)))
+    (omega arith, rw add-one (some_none (no_day s) at.k at.invariant.1 (upto s at.k c.loop-k-test.true (omega (arith, c.if-calendar-k-gt7.false)))))
 
 pub returns : goal.returns
 returns c =
