@@ -5,6 +5,7 @@ pub mod Pass
 pub mod LastLessFirst
 pub mod Rows
 pub mod With
+pub mod Disagrees
 pub mod Stores
 pub mod Shows
 pub mod Pairs

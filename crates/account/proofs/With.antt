@@ -1,5 +1,6 @@
 -- The first and the last boundary with p (Account and its calls), when k is taken in among them. Assumes nothing.
-use Prim.Native.Nat.{ℕ, zero, suc, ◌≤◌, ◌<◌}
+use Prim.Native.Nat.{ℕ, zero, suc, ◌≤◌, ◌<◌, min, max}
+use native.Mathlib.Decide.{dec_lt}
 use native.Mathlib.Nat.{le_refl}
 use native.Mathlib.Omega.{arith}
 use mathlib.Core.Path.{◌≡◌, refl, ap₂, ◌∙◌}
@@ -21,22 +22,29 @@ module _ (p : ℕ → Bool) (k m : ℕ) (within : k < m) where
   some_with zero l = refl
   some_with (suc j) l = ap₂ ◌||◌ (some_with j (omega arith)) (put_other p k true j (λ e. omega arith))
 
-  pub first_with_at : k ≤ first p m → first (put p k true) m ≡ k
-  first_with_at l = first_at (put p k true) m k within (some_with k (le_refl k) ∙ first_below p m k l) (put_here p k true)
+  pub first_with : first (put p k true) m ≡ min (first p m) k
+  first_with = go (dec_lt (first p m) k)
+    where
+      go : Dec (first p m < k) → first (put p k true) m ≡ min (first p m) k
+      go (yes l) =
+          let is = first_at (put p k true) m (first p m) (omega arith)
+          (some_with (first p m) (omega arith) ∙ first_below p m (first p m) (le_refl (first p m)))
+          (put_other p k true (first p m) (λ e. omega arith) ∙ first_holds p m (omega arith)) in
+          omega arith
+      go (no l) =
+          let is = first_at (put p k true) m k within (some_with k (le_refl k) ∙ first_below p m k (omega arith)) (put_here p k true) in
+          omega arith
 
-  pub first_with_before : first p m < k → first (put p k true) m ≡ first p m
-  first_with_before l =
-      first_at (put p k true) m (first p m) (omega arith)
-      (some_with (first p m) (omega arith) ∙ first_below p m (first p m) (le_refl (first p m)))
-      (put_other p k true (first p m) (λ e. omega arith) ∙ first_holds p m (omega arith))
-
-  pub last_with_at : last p m ≤ k → last (put p k true) m ≡ k
-  last_with_at l =
-      last_at (put p k true) m k within (put_here p k true)
-      (λ j g s. put_other p k true j (λ e. omega arith) ∙ last_above p m j (omega arith) s)
-
-  pub last_with_after : k < last p m → last (put p k true) m ≡ last p m
-  last_with_after l =
-      last_at (put p k true) m (last p m) (last_less p m (omega arith))
-      (put_other p k true (last p m) (λ e. omega arith) ∙ last_holds p m (omega arith))
-      (λ j g s. put_other p k true j (λ e. omega arith) ∙ last_above p m j (omega arith) s)
+  pub last_with : last (put p k true) m ≡ max (last p m) k
+  last_with = go (dec_lt k (last p m))
+    where
+      go : Dec (k < last p m) → last (put p k true) m ≡ max (last p m) k
+      go (yes l) =
+          let is = last_at (put p k true) m (last p m) (last_less p m (omega arith))
+          (put_other p k true (last p m) (λ e. omega arith) ∙ last_holds p m (omega arith))
+          (λ j g s. put_other p k true j (λ e. omega arith) ∙ last_above p m j (omega arith) s) in
+          omega arith
+      go (no l) =
+          let is = last_at (put p k true) m k within (put_here p k true)
+          (λ j g s. put_other p k true j (λ e. omega arith) ∙ last_above p m j (omega arith) s) in
+          omega arith

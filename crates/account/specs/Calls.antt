@@ -1,21 +1,8 @@
 -- The account's calls (Account and its calls): for each, what it answers and what every slice holds after it.
 use Rattle.std.specs.Prelude.{ℕ, ◌≡◌, Bool, true, false, List, set}
 use Rattle.common.specs.Rows.{if_done, zeros}
-use Rattle.account.specs.declared.Answer.{Answer}
-use Rattle.account.specs.declared.Answer.TheVariants.{Done, Unfit, Unsound, NoBoundary, AlreadyThere, OutOfOrder, TooMuch, NotThere}
 use Rattle.account.specs.Account.{Account, account, shown, mark_of, good_weights}
 use Rattle.account.specs.Refusals.{account_rows, open_number, reading_number, withdraw_number, cut_number, uncut_number}
-
--- the number that the paper gives each answer; 0 is done
-abbrev pub number : Answer → ℕ
-number Done = 0
-number Unfit = 3
-number Unsound = 5
-number NoBoundary = 6
-number AlreadyThere = 7
-number OutOfOrder = 8
-number TooMuch = 9
-number NotThere = 10
 
 -- "Open clears marks and counts."
 abbrev pub cleared : Account → Account

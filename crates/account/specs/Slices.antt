@@ -2,10 +2,15 @@
 use Rattle.std.specs.Prelude.{ℕ, suc, ◌+◌, ◌≤◌, ◌≡◌, Bool, true, false, ◌&&◌, List, ltb, length, get_or}
 use Rattle.profile.specs.Limits.{span_least, span_most}
 use Rattle.account.specs.Stands.{never_falling}
-use Rattle.account.specs.Account.{Account, days, shown, unfit, marks_reading, good_marks, zero_counts}
+use Rattle.account.specs.declared.Account as declared
+use Rattle.account.specs.Account.{Account, account, days, shown, unfit, marks_reading, good_marks, zero_counts}
 use Rattle.account.specs.Account as accounts
-use Rattle.common.specs.Rows.{row, if_done}
+use Rattle.common.specs.Rows.{row}
 use Rattle.account.specs.Refusals.{account_rows}
+
+-- what an account holds that is lent to be read
+abbrev pub lent : declared.Account → Account
+lent a = account a.weights.now a.marks.now a.counts.now
 
 -- whether these marks show a reading at k
 abbrev pub reads_at : List ℕ → ℕ → Bool
@@ -34,7 +39,3 @@ good_boundaries a = good_marks a && zero_counts a && never_falling (shown a).rea
 -- rows 3, 5 and 6, which every call on a boundary has, and then the rest
 abbrev pub boundary_rows : Account → ℕ → ℕ → ℕ
 boundary_rows a k rest = account_rows a (row (ltb (days a) k) 6 rest)
-
--- after rows that answered n (0 is nothing yet), one row more
-abbrev pub next_row : ℕ → Bool → ℕ → ℕ
-next_row n holds refusal = if_done n (row holds refusal 0) n

@@ -1,38 +1,22 @@
--- Laws of faults in order (If a call declines): the first of several, and how far the reader comes. Assumes nothing.
+-- Laws of faults in order (If a call declines): the first of several. Assumes nothing.
 use Prim.Native.Nat.{ℕ, zero, suc, ◌+◌, ◌<◌}
-use mathlib.Core.Path.{◌≡◌, refl, sym, ◌∙◌, ap}
+use mathlib.Core.Path.{◌≡◌, refl}
 use mathlib.Core.Bool.{Bool, true, false}
+use mathlib.Core.List.{List}
 use native.Mathlib.Omega.{arith}
 use native.Mathlib.Numerals.{add-one}
 use native.Mathlib.Decide.{dec_lt}
 use Rattle.common.specs.Rows.{row}
-use Rattle.casefile.specs.declared.sections.SectionEnd.{SectionEnd}
-use Rattle.casefile.specs.Faults.{Fault, no_fault, refused, ◌before◌, fault, first_fault}
+use Rattle.casefile.specs.Bytes.{number16}
+use Rattle.casefile.specs.Faults.{Fault, no_fault, refused, ◌before◌, fault, early, first_fault, section_fault}
 use Rattle.casefile.specs.Reader.{fault_number}
-use Rattle.casefile.specs.Sections.{told, told_by, Reached}
-
--- a fault that was met
-pub met : {number place : ℕ} {p : SectionEnd} → 0 < number → p ≡ record { number = number; place = place; days = 0 } → p.number ≡ 0 → ⊥
-met l e z = omega (arith, ap (λ (q : SectionEnd). q.number) e)
-
-pub stops : {f : Fault} {n next number place : ℕ} {p : SectionEnd} → 0 < number → p ≡ record { number = number; place = place; days = 0 } → told number place ≡ f → Reached f n next p
-stops l e t = record { tells = rw e t; days_are = λ z. absurd (met l e z); stands = λ z. absurd (met l e z) }
-
--- no fault
-pub goes : {f : Fault} {n next days at : ℕ} {p : SectionEnd} → p ≡ record { number = 0; place = at; days = days } → no_fault ≡ f → days ≡ n → at ≡ next → Reached f n next p
-goes e t d a =
-    record {
-      tells = rw e t;
-      days_are = λ z. ap (λ (q : SectionEnd). q.days) e ∙ d;
-      stands = λ z. ap (λ (q : SectionEnd). q.place) e ∙ a;
-    }
 
 -- the items before i have no fault, and item i ..
 pub first_more : (f : ℕ → Fault) (i : ℕ) → first_fault f i ≡ no_fault → f i ≡ no_fault → first_fault f (i + 1) ≡ no_fault
 unfolding first_fault
 first_more f i n e = rw (add-one, n, e) refl
 
-first_is : (f : ℕ → Fault) (m i : ℕ) {number place : ℕ} → i < m → first_fault f i ≡ no_fault → f i ≡ refused number place → first_fault f m ≡ refused number place
+pub first_is : (f : ℕ → Fault) (m i : ℕ) {number place : ℕ} → i < m → first_fault f i ≡ no_fault → f i ≡ refused number place → first_fault f m ≡ refused number place
 unfolding first_fault
 first_is f zero i l n e = absurd (omega arith)
 first_is f (suc m) i {number} {place} l n e = go (first_is f m i) (dec_lt i m)
@@ -115,34 +99,10 @@ first_few f (suc m) i l e = go (first_few f m i) (none_both (first_fault f m) (f
         let same : i ≡ m = omega arith in
         rw same n
 
--- how far the reader comes over two sections: the first has no fault, or has one and the second is not read
-pub clean : {f : Fault} {n next : ℕ} {p : SectionEnd} → Reached f n next p → p.number ≡ 0 → f ≡ no_fault
-clean {p = p} r z = sym r.tells ∙ ap (λ (n : ℕ). told n p.place) z
+-- the items of a section whose count is there: all without a fault, or item i with the first
+module _ (s : List ℕ) (at : ℕ) (item : ℕ → Fault) {count : ℕ} (there : early s (at + 2) ≡ no_fault) (counted : count ≡ number16 s at) where
+  pub section_passes : first_fault item count ≡ no_fault → section_fault s at item ≡ no_fault
+  section_passes e = rw (there, ← counted) e
 
-told_first : (number place : ℕ) (g : Fault) → (number ≡ 0 → ⊥) → told number place ≡ (told number place before g)
-told_first zero place g n = absurd (n refl)
-told_first (suc number) place g n = refl
-
-pub stays : {n next : ℕ} (p : SectionEnd) (g : Fault) → (p.number ≡ 0 → ⊥) → Reached (told_by p before g) n next p
-stays p g h = record { tells = told_first p.number p.place g h; days_are = λ z. absurd (h z); stands = λ z. absurd (h z) }
-
-pub told_again : {n next number place : ℕ} {p : SectionEnd} (g : Fault) → (number ≡ 0 → ⊥) → p ≡ record { number = number; place = place; days = 0 } → Reached (told number place before g) n next p
-told_again {number = number} {place = place} g h e =
-    let l : 0 < number = omega (arith, h) in
-    stops l e (told_first number place g h)
-
-pub joins : (g : Fault) {n next : ℕ} (number place : ℕ) {q : SectionEnd} → number ≡ 0 → Reached g n next q → Reached (told number place before g) n next q
-joins g number place z t = record { tells = t.tells ∙ ap (λ (n : ℕ). told n place before g) (sym z); days_are = t.days_are; stands = t.stands }
-
--- .. and the fault that the first tells is its own
-pub after : {f : Fault} {m n at next : ℕ} {p q : SectionEnd} (g : Fault) → Reached f m at p → Reached (told_by p before g) n next q → Reached (f before g) n next q
-after g r t = record { tells = t.tells ∙ ap (λ (x : Fault). x before g) r.tells; days_are = t.days_are; stands = t.stands }
-
--- a fault at item i is the first of its section
-first_told : (f : ℕ → Fault) (m i number place : ℕ) → i < m → first_fault f i ≡ no_fault → 0 < number → told number place ≡ f i → told number place ≡ first_fault f m
-first_told f m i zero place l n h e = absurd (omega arith)
-first_told f m i (suc number) place l n h e = sym (first_is f m i l n (sym e))
-
-pub first_stops : (f : ℕ → Fault) (m i : ℕ) {n next number place : ℕ} {p : SectionEnd} → i < m → first_fault f i ≡ no_fault → 0 < number
-    → p ≡ record { number = number; place = place; days = 0 } → told number place ≡ f i → Reached (first_fault f m) n next p
-first_stops f m i {number = number} {place = place} h n l e t = stops l e (first_told f m i number place h n l t)
+  pub section_stops : {i number place : ℕ} → i < count → first_fault item i ≡ no_fault → item i ≡ refused number place → section_fault s at item ≡ refused number place
+  section_stops {i = i} l n e = rw (there, ← counted) (first_is item count i l n e)

@@ -16,19 +16,11 @@ use Rattle.account.specs.Account.{Account, account, marks_cut, mark_of}
 use Rattle.account.specs.Calls.{reading_put}
 use Rattle.account.proofs.Shows.{zeros}
 use Rattle.casefile.specs.Case.{item_at, boundary_at, reading_count_at, readings_put}
-use Rattle.casefile.specs.Faults.{Fault, no_fault, first_fault, fails_to_rise, boundary_fault, reading_fault_at}
+use Rattle.casefile.specs.Faults.{no_fault, first_fault, fails_to_rise, boundary_fault, reading_fault_at}
 use Rattle.casefile.specs.Reader.{full}
-use Rattle.casefile.specs.declared.readings.Reading.{Reading}
-use Rattle.casefile.specs.Sections.{told, Clear, ReadingTold, item_fault}
+use Rattle.casefile.specs.Sections.{Clear, item_fault}
 use Rattle.casefile.proofs.Faults.{none_both, first_more, passes, no_fault_lem}
 use Rattle.casefile.proofs.Kept.{readings_kept, uncut, full_reading}
-
-pub stored : {number place : ℕ} {r : Reading} → 0 < number → r ≡ record { number = number; place = place; boundary = 0; count = 0 } → r.number ≡ 0 → ⊥
-stored l e z = omega (arith, ap (λ (q : Reading). q.number) e)
-
-pub reading_stops : {f : Fault} {boundary count number place : ℕ} {r : Reading} → 0 < number → r ≡ record { number = number; place = place; boundary = 0; count = 0 }
-    → told number place ≡ f → ReadingTold f boundary count r
-reading_stops l e t = record { tells = rw e t; boundary_is = λ z. absurd (stored l e z); count_is = λ z. absurd (stored l e z) }
 
 -- the least boundary that rises, and the count of the reading before; at the first reading 0, and its own count
 abbrev pub above : (ℕ → ℕ) → ℕ → ℕ

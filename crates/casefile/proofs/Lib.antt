@@ -7,7 +7,6 @@ pub mod Items
 pub mod Marked
 pub mod Weighing
 pub mod Chained
-pub mod Answered
 pub mod Ordered
 pub mod Sound
 pub mod Together

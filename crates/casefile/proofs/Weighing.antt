@@ -8,7 +8,7 @@ use borrow.Author.Tests.{ltb-true, ltb-false, leb-true, leb-false, lt-ltb, le-lt
 use lib.Dec.{ltb, leb, leb-suc-suc}
 use lib.IntN.{ℤ}
 use lib.ListN.{length, take, drop, get_or, replicate, length-drop, length-replicate, get_or-replicate}
-use lib.Seq.{ext_get_or, get_or-drop, length-take-le}
+use lib.Seq.{ext_get_or, get_or-drop}
 use Rattle.profile.specs.Limits.{in_range, span_most, profile_count, bad_span, weight_least, weight_most}
 use Rattle.common.proofs.Below.{both, every_is}
 use Rattle.common.specs.Rows.{filled}
@@ -23,7 +23,7 @@ use Rattle.account.specs.Account.{good_weights}
 use Rattle.casefile.specs.Bytes.{byte, number16}
 use Rattle.casefile.specs.Case.{item_at, mean_at, means_at}
 use Rattle.casefile.specs.Faults.{no_fault, ◌before◌, fault, first_fault, first_bytes_fault, means_count_fault, mean_fault_at}
-use Rattle.casefile.specs.Sections.{Weighable}
+use Rattle.casefile.specs.Sections.{Clear, Weighable}
 use Rattle.casefile.proofs.Faults.{no_fault_lem, passes, none_before}
 
 pub record GoodSpan (n : ℕ) : Type 0 where
@@ -110,18 +110,18 @@ weights_good profile weekday means calendar r = every_is _ _ λ d l.
     let b = weights_bounded profile weekday means calendar r d (omega (arith, weights_length profile weekday means calendar)) in
     simp (le-leb weight_least x b.0, le-leb x weight_most b.1)
 
--- the weights call does what it is asked, and leaves the rest zero
-pub weighs : {profile weekday days : ℕ} {means means_after : List ℤ} {lent after calendar_after : List ℕ} {answered placed : ℕ} → Weighable profile weekday means days lent
-    → WeightsMet profile weekday (take (days + 3) means) (take days (replicate span_most 7)) (take days lent) answered placed after means_after calendar_after
-    → after ++ drop days lent ≡ filled span_most (weights_of profile weekday (take (days + 3) means) (replicate days 7))
-weighs {profile} {weekday} {days} {means} {lent} {after} w m =
-    let enough : length (take (days + 3) means) ≡ days + 3 = length-take-le (days + 3) means w.enough in
-    let room : length (take days lent) ≡ days = length-take-le days lent (omega (arith, w.clear.long)) in
-    let n = length (take (days + 3) means) - 3 in
+-- the weights call does what it is asked
+pub weighs : {profile weekday : ℕ} {means means_after : List ℤ} {lent after calendar_after : List ℕ} {answered placed : ℕ} → Weighable profile weekday means lent
+    → WeightsMet profile weekday means (take (length lent) (replicate span_most 7)) lent answered placed after means_after calendar_after
+    → after ≡ weights_of profile weekday means (replicate (length lent) 7)
+weighs {profile} {weekday} {means} {lent = lent} w m =
+    let n = length means - 3 in
+    let days = length lent in
     let own = take_replicate 7 days span_most w.most in
-    let listed = length-replicate {A = ℕ} days 7 in
-    let full : after ≡ weights_of profile weekday (take (days + 3) means) (replicate days 7) =
-    rw own at m.writes ∙ simp (le-leb 1 n (omega arith), le-leb n span_most (omega arith), eq-eqb (length (take days lent)) n (omega arith), eq-eqb (length (replicate {A = ℕ} days 7)) n (omega arith), lt-leb profile_count profile (omega arith), le-ltb 6 weekday (omega arith), w.means_in_range, own_named days) in
-    let rest : drop days lent ≡ replicate (span_most - days) 0 = ap (drop days) w.clear.zero_throughout ∙ drop_zeros days (length lent) ∙ ap (λ (n : ℕ). replicate (n - days) 0) w.clear.long in
-    let long : length (weights_of profile weekday (take (days + 3) means) (replicate days 7)) ≡ days = weights_length profile weekday (take (days + 3) means) (replicate days 7) ∙ omega arith in
-    rw (full, rest, long) refl
+    rw own at m.writes ∙ simp (le-leb 1 n (omega (arith, w.enough, w.least)), le-leb n span_most (omega (arith, w.enough, w.most)), eq-eqb days n (omega (arith, w.enough)), eq-eqb (length (replicate {A = ℕ} days 7)) n (omega (arith, w.enough, length-replicate {A = ℕ} days 7)), lt-leb profile_count profile (omega (arith, w.profile_known)), le-ltb 6 weekday (omega (arith, w.weekday_known)), w.means_in_range, own_named days)
+
+-- a slice that was clear is zero after the weights written into it
+pub rest_zero : {lent : List ℕ} (days : ℕ) (written : List ℕ) → Clear span_most lent → length written ≡ days → written ++ drop days lent ≡ filled span_most written
+rest_zero {lent} days written c long =
+    let rest : drop days lent ≡ replicate (span_most - days) 0 = ap (drop days) c.zero_throughout ∙ drop_zeros days (length lent) ∙ ap (λ (n : ℕ). replicate (n - days) 0) c.long in
+    rw (rest, long) refl

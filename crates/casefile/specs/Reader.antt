@@ -5,25 +5,11 @@ use Rattle.common.specs.Rows.{if_done, zeros, filled}
 use Rattle.profile.specs.Limits.{span_most}
 use Rattle.account.specs.Account.{Account, account, unfit, sound}
 use Rattle.account.specs.Account as accounts
-use Rattle.casefile.specs.declared.CaseAnswer.{CaseAnswer}
-use Rattle.casefile.specs.declared.CaseAnswer.TheVariants.{Days, Refused}
 use Rattle.account.specs.Refusals.{open_number, reading_number, cut_number}
 use Rattle.casefile.specs.Case.{account_of, days_of, empty_case, with_readings, with_cuts, readings_length, reading_boundary, reading_count, cuts_length, cut_boundary}
 use Rattle.casefile.specs.Faults.{Fault, no_fault, refused, fault_of}
 
--- the number, the place and n of each answer; 0 is done, a refused n is 0
-abbrev pub number : CaseAnswer → ℕ
-number (Days n) = 0
-number (Refused r at) = r
-
-abbrev pub place : CaseAnswer → ℕ
-place (Days n) = 0
-place (Refused r at) = at
-
-abbrev pub days : CaseAnswer → ℕ
-days (Days n) = n
-days (Refused r at) = 0
-
+-- the number and the place of a fault; 0 is done
 abbrev pub fault_number : Fault → ℕ
 fault_number no_fault = 0
 fault_number (refused r at) = r

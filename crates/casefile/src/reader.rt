@@ -1,80 +1,74 @@
-// The reader (Case file): it holds the file and its own position. Thin calls take it apart for the sections' functions.
-ghost use Rattle.std.specs.Prelude.{◌≡◌, ◌+◌, ◌≤◌, length};
-ghost use Rattle.profile.specs.Limits.{span_most};
-ghost use Rattle.casefile.specs.Sections.{Goes, Clear, SpanMet, ReadingsAfter, CutsAfter, SectionsMet};
+// The reader (Case file): it holds the file and its own position, and reads on from there.
+ghost use Rattle.std.specs.Prelude.{◌≡◌, ◌+◌, ◌≤◌, length, ⊤};
+ghost use Rattle.casefile.specs.Bytes.{number16};
+ghost use Rattle.casefile.specs.Faults.{early, left_over};
+ghost use Rattle.casefile.specs.Sections.{Reached, BoundaryRead, rising_fault};
 
-use crate::cuts::cuts_at;
-use crate::readings::readings_at;
-use crate::sections::SectionEnd;
-use crate::span::span_at;
+use crate::bytes::number16;
+use common::{Fault, Refusal};
 
-#[derive(Clone, Copy)]
-pub struct Reader<'a> {
-    pub file: &'a [u8],
-    pub at: usize,
+// Kept: each method says that the file stays, since a `&mut` could exchange it.
+#[derive(Drop)]
+pub(crate) struct Reader<'a> {
+    pub(crate) file: &'a [u8],
+    pub(crate) at: usize,
+    ghost within: { at ≤ length file.now },
 }
 
-// A file from its start.
-fn new<'a>(file: &'a [u8]) -> Reader<'a>
-    ensures { (result.file ≡ file.entry) × (result.at ≡ 0) }
+// A refusal with its place.
+pub(crate) fn fault(refusal: Refusal, place: usize) -> Fault
+    ensures { result ≡ record { refusal = refusal; place = place } }
 {
-    Reader { file, at: 0 }
+    Fault { refusal, place }
 }
 
-// The same file at another position.
-fn moved<'a>(r: Reader<'a>, at: usize) -> Reader<'a>
-    ensures { (result.file ≡ r.entry.file) × (result.at ≡ at) }
-{
-    Reader { file: r.file, at }
-}
+impl Reader<'_> {
+    // Moves on over so many bytes, and gives the offset of the first of them.
+    pub(crate) fn pass(&mut self, size: usize) -> Result<usize, Fault>
+        ensures same { self.new.file ≡ self.old.file }
+        ensures reached { Reached (early self.old.file.now (self.old.at + size)) (self.old.at + size) self.new.at (λ place. place ≡ self.old.at) result }
+    {
+        let place = self.at;
+        if self.file.len() - place < size {
+            return Err(fault(Refusal::BadFile, self.file.len()));
+        }
+        self.at += size;
+        Ok(place)
+    }
 
-// Profile, weekday and means.
-fn span<'a>(r: Reader<'a>, means: &mut [i16]) -> SectionEnd
-    requires { (r.at ≤ length r.file.now) × (length means.old ≡ span_most + 3) }
-    ensures { SpanMet r.entry.file.now r.entry.at result means.new }
-{
-    span_at(r.file, r.at, means)
-}
+    // The count of the items of a section.
+    pub(crate) fn count(&mut self) -> Result<usize, Fault>
+        ensures same { self.new.file ≡ self.old.file }
+        ensures reached { Reached (early self.old.file.now (self.old.at + 2)) (self.old.at + 2) self.new.at (λ count. count ≡ number16 self.old.file.now self.old.at) result }
+    {
+        let place = self.pass(2)?;
+        Ok(number16(self.file, place))
+    }
 
-fn readings<'a>(
-    r: Reader<'a>,
-    number: u8,
-    days: usize,
-    marks: &mut [u8],
-    counts: &mut [u64],
-) -> SectionEnd
-    requires { Goes r.file.now r.at number days × Clear (span_most + 1) marks.old × (length counts.old ≡ span_most + 1) }
-    ensures { ReadingsAfter r.entry.file.now r.entry.at number days marks.old counts.old result marks.new counts.new }
-{
-    readings_at(r.file, r.at, number, days, marks, counts)
-}
+    // The boundary at the start of an item of so many bytes. Boundaries below `low` fail to rise.
+    pub(crate) fn boundary(&mut self, width: usize, low: usize, days: usize) -> Result<usize, Fault>
+        requires { 2 ≤ width }
+        ensures same { self.new.file ≡ self.old.file }
+        ensures reached { Reached (rising_fault width self.old.file.now self.old.at low days) (self.old.at + width) self.new.at (BoundaryRead self.old.file.now self.old.at low days) result }
+    {
+        let place = self.pass(width)?;
+        let boundary = number16(self.file, place);
+        if boundary < low {
+            return Err(fault(Refusal::BadFile, place));
+        }
+        if days < boundary {
+            return Err(fault(Refusal::NoBoundary, place));
+        }
+        Ok(boundary)
+    }
 
-fn cuts<'a>(r: Reader<'a>, number: u8, days: usize, marks: &mut [u8]) -> SectionEnd
-    requires { Goes r.file.now r.at number days × (length marks.old ≡ span_most + 1) }
-    ensures { CutsAfter r.entry.file.now r.entry.at number days marks.old result marks.new }
-{
-    cuts_at(r.file, r.at, number, days, marks)
-}
-
-// Front to back into cleared slices: plain parameters, so that callers see no reader.
-pub(crate) fn fill(
-    file: &[u8],
-    means: &mut [i16],
-    marks: &mut [u8],
-    counts: &mut [u64],
-) -> SectionEnd
-    requires { (length means.old ≡ span_most + 3) × Clear (span_most + 1) marks.old × Clear (span_most + 1) counts.old }
-    ensures { SectionsMet file.now marks.old counts.old result means.new marks.new counts.new }
-{
-    let start = new(file);
-    let means_end = span(start, means);
-    let after_means = moved(start, means_end.place);
-    let readings_end = readings(after_means, means_end.number, means_end.days, marks, counts);
-    let after_readings = moved(after_means, readings_end.place);
-    cuts(
-        after_readings,
-        readings_end.number,
-        readings_end.days,
-        marks,
-    )
+    // The end of the file, after its last section.
+    pub(crate) fn ended(&self) -> Result<(), Fault>
+        ensures { Reached (left_over self.now.file.now self.now.at) self.now.at self.now.at (λ _. ⊤) result }
+    {
+        if self.at < self.file.len() {
+            return Err(fault(Refusal::BadFile, self.at));
+        }
+        Ok(())
+    }
 }

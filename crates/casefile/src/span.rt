@@ -1,102 +1,80 @@
 // The first sections of a case file: profile, weekday and means; and the weights that they give (Case file).
-ghost use Rattle.std.specs.Prelude.{◌≡◌, ◌+◌, ◌-◌, ◌≤◌, length, take, replicate};
+ghost use Rattle.std.specs.Prelude.{◌≡◌, ◌+◌, ◌-◌, ◌≤◌, length, replicate};
 ghost use Rattle.profile.specs.Limits.{span_most};
 ghost use Rattle.weights.specs.Weights.{weights_of};
-ghost use Rattle.common.specs.Rows.{filled};
-ghost use Rattle.casefile.specs.Bytes.{number16};
-ghost use Rattle.casefile.specs.Faults.{first_bytes_fault, means_count_fault, mean_fault_at, items_fault};
-ghost use Rattle.casefile.specs.Sections.{Reached, MeansAsked, MeansMet, SpanMet, Weighable};
+ghost use Rattle.casefile.specs.Bytes.{byte, number16, signed16};
+ghost use Rattle.casefile.specs.Case.{end_at};
+ghost use Rattle.casefile.specs.Faults.{first_bytes_fault, means_count_fault};
+ghost use Rattle.casefile.specs.Sections.{Reached, MeansStand, Weighable, means_fault_at, value_fault};
 
-use crate::bytes::{number16, signed};
-use crate::sections::{SectionEnd, passed, refused};
+use crate::bytes::{number16, signed16};
+use crate::reader::{Reader, fault};
+use common::{Fault, Refusal};
 use profile::Profile;
 
-// Profile and weekday.
-fn first_bytes(file: &[u8], at: usize) -> SectionEnd
-    requires { at ≤ length file.now }
-    ensures { Reached (first_bytes_fault file.now at) 0 (at + 2) result }
-{
-    if file.len() < at + 1 {
-        return refused(13, file.len());
-    }
-    if Profile::COUNT <= file[at] {
-        return refused(1, at);
-    }
-    if file.len() < at + 2 {
-        return refused(13, file.len());
-    }
-    if 6 < file[at + 1] {
-        return refused(2, at + 1);
-    }
-    passed(0, at + 2)
-}
-
-// The count of means. The reader stays there, where the section starts.
-fn means_counted(file: &[u8], at: usize) -> SectionEnd
-    requires { at ≤ length file.now }
-    ensures { Reached (means_count_fault file.now at) (number16 file.now at - 3) at result }
-{
-    if file.len() < at + 2 {
-        return refused(13, file.len());
-    }
-    let count = number16(file, at);
-    if count < Profile::SPAN_LEAST + 3 {
-        return refused(3, at);
-    }
-    if Profile::SPAN_MOST + 3 < count {
-        return refused(3, at);
-    }
-    passed(count - 3, at)
-}
-
-// The means of the section at an offset, up to the first fault, into a buffer.
-fn means_at(file: &[u8], at: usize, count: usize, means: &mut [i16]) -> SectionEnd
-    requires { MeansAsked file.now at count means.old }
-    ensures { MeansMet file.now at (items_fault file.now at (mean_fault_at file.now at)) result means.new }
-{
-    let mut i = 0;
-    while i < count {
-        let place = at + 2 + 2 * i;
-        if file.len() < place + 2 {
-            return refused(13, file.len());
+impl Reader<'_> {
+    // Profile and weekday.
+    pub(crate) fn first_bytes(&mut self) -> Result<(u8, u8), Fault>
+        ensures same { self.new.file ≡ self.old.file }
+        ensures reached { Reached (first_bytes_fault self.old.file.now self.old.at) (self.old.at + 2) self.new.at (λ day. (day.0 ≡ byte self.old.file.now self.old.at) × (day.1 ≡ byte self.old.file.now (self.old.at + 1))) result }
+    {
+        let place = self.pass(1)?;
+        let profile = self.file[place];
+        if Profile::COUNT <= profile {
+            return Err(fault(Refusal::NoProfile, place));
         }
-        let mean = signed(number16(file, place));
+        let place = self.pass(1)?;
+        let weekday = self.file[place];
+        if 6 < weekday {
+            return Err(fault(Refusal::NoWeekday, place));
+        }
+        Ok((profile, weekday))
+    }
+
+    // The count of means.
+    fn means_count(&mut self) -> Result<usize, Fault>
+        ensures same { self.new.file ≡ self.old.file }
+        ensures reached { Reached (means_count_fault self.old.file.now self.old.at) (self.old.at + 2) self.new.at (λ count. count ≡ number16 self.old.file.now self.old.at) result }
+    {
+        let place = self.pass(2)?;
+        let count = number16(self.file, place);
+        if count < Profile::SPAN_LEAST + 3 || Profile::SPAN_MOST + 3 < count {
+            return Err(fault(Refusal::Unfit, place));
+        }
+        Ok(count)
+    }
+
+    fn mean(&mut self) -> Result<i16, Fault>
+        ensures same { self.new.file ≡ self.old.file }
+        ensures reached { Reached (value_fault self.old.file.now self.old.at) (self.old.at + 2) self.new.at (λ mean. mean ≡ signed16 self.old.file.now self.old.at) result }
+    {
+        let place = self.pass(2)?;
+        let mean = signed16(self.file, place);
         if !profile::in_range(mean) {
-            return refused(4, place);
+            return Err(fault(Refusal::OutOfRange, place));
         }
-        means[i] = mean;
-        i += 1;
+        Ok(mean)
     }
-    passed(count - 3, at + 2 + 2 * count)
+
+    // The means into a buffer; it gives the number of days.
+    pub(crate) fn means(&mut self, means: &mut [i16]) -> Result<usize, Fault>
+        requires { length means.old ≡ span_most + 3 }
+        ensures same { self.new.file ≡ self.old.file }
+        ensures reached { Reached (means_fault_at self.old.file.now self.old.at) (end_at 2 self.old.file.now self.old.at) self.new.at (MeansStand self.old.file.now self.old.at means.new) result }
+    {
+        let count = self.means_count()?;
+        for mean in means[..count].iter_mut() {
+            *mean = self.mean()?;
+        }
+        Ok(count - 3)
+    }
 }
 
-// Profile, weekday and means.
-pub(crate) fn span_at(file: &[u8], at: usize, means: &mut [i16]) -> SectionEnd
-    requires { (at ≤ length file.now) × (length means.old ≡ span_most + 3) }
-    ensures { SpanMet file.now at result means.new }
-{
-    let first = first_bytes(file, at);
-    if first.number != 0 {
-        return first;
-    }
-    let head = means_counted(file, first.place);
-    if head.number != 0 {
-        return head;
-    }
-    means_at(file, head.place, head.days + 3, means)
-}
-
-// The weights of a span whose days count as their own weekdays, from the first means of the buffer into the first of the lent weights.
-pub(crate) fn weigh(profile: u8, weekday: u8, means: &[i16], days: usize, weights: &mut [u32])
-    requires { Weighable profile weekday means.now days weights.old }
-    ensures { weights.new ≡ filled span_most (weights_of profile weekday (take (days + 3) means.now) (replicate days 7)) }
+// The weights of a span whose days count as their own weekdays.
+pub(crate) fn weigh(profile: u8, weekday: u8, means: &[i16], weights: &mut [u32])
+    requires { Weighable profile weekday means.now weights.old }
+    ensures { weights.new ≡ weights_of profile weekday means.now (replicate (length weights.old) 7) }
 {
     let own = [7u8; Profile::SPAN_MOST];
-    weights::weights(
-        profile,
-        weekday,
-        &means[..days + 3],
-        &own[..days],
-        &mut weights[..days],
-    );
+    let _ = weights::weights(profile, weekday, means, &own[..weights.len()], weights);
 }

@@ -1,32 +1,15 @@
 // The example files (Case file): each file that an argument names, its name and then the text that `arvadush` prints for it.
 #![tactic(auto)]
 
-ghost use Rattle.std.specs.Prelude.{◌≤◌, length, IfOk};
-
 use layout::TEXT_MOST;
 use profile::Profile;
-use report::{BYTES_READ, case_text};
+use report::{BYTES_READ, case_text, read_full};
 use std::env::FillError;
 use std::io::Read;
 use std::rt::{Env, Files};
 use std::{fs, io, str};
 
-// Reads until the buffer is full or the input ends; how many bytes were put at its start.
-fn read_full(input: &mut impl Read, buffer: &mut [u8]) -> io::Result<usize>
-    ensures { IfOk result (λ n. n ≤ length buffer.new) }
-{
-    let mut done = 0;
-    while done < buffer.len() {
-        let n = input.read(&mut buffer[done..])?;
-        if n == 0 {
-            break;
-        }
-        done += n;
-    }
-    Ok(done)
-}
-
-// Prints the text of the case file that is read from input, as `arvadush` does.
+// Prints the text of the case file that is read from input, as `arvadush` does, and in buffers like its.
 fn print_case(rt: &impl Print, input: &mut impl Read) -> io::Result<()> {
     let mut weights = [0u32; Profile::SPAN_MOST];
     let mut marks = [0u8; Profile::SPAN_MOST + 1];

@@ -3,6 +3,7 @@ use Prim.Native.Nat.{ℕ, zero, suc, ◌+◌, ◌-◌, ◌≤◌, ◌<◌}
 use mathlib.Core.Path.{◌≡◌, refl, sym, ◌∙◌, ap, subst}
 use mathlib.Core.Bool.{Bool, true, false, cond}
 use native.Mathlib.Omega.{arith}
+use mir.Val.{bool_byte}
 use native.Mathlib.Numerals.{add-one}
 use native.Mathlib.Nat.{add-zero}
 use native.Mathlib.Decide.{dec_lt, le_ind}
@@ -28,6 +29,11 @@ listed_same {p} {q} a b k = go (p k) (q k) (listed_too a b k) (listed_too b a k)
     go false true there back = back refl
     go false false there back = refl
 
+-- a test counts at most once
+pub once : (b : Bool) → bool_byte b ≤ 1
+once true = omega arith
+once false = omega arith
+
 module _ (p : ℕ → Bool) where
   -- how many there are: no more than the numbers asked, no fewer below a larger one, and all of them where p always holds
   pub many_most : (m : ℕ) → how_many p m ≤ m
@@ -38,6 +44,15 @@ module _ (p : ℕ → Bool) where
       go : (b : Bool) → how_many p m ≤ m → how_many p m + cond b 1 0 ≤ suc m
       go true l = omega arith
       go false l = omega arith
+
+  -- one number more
+  pub many_more : (k : ℕ) {n r : ℕ} {b : Bool} → n ≡ how_many p k → b ≡ p k → r ≡ bool_byte b → n + r ≡ how_many p (k + 1)
+  unfolding how_many
+  many_more k {b = b} was is one = rw (was, one, add-one k, ← is) (ap (λ (x : ℕ). how_many p k + x) (byte b))
+    where
+      byte : (x : Bool) → bool_byte x ≡ cond x 1 0
+      byte true = refl
+      byte false = refl
 
   pub many_up : (m n : ℕ) → m ≤ n → how_many p m ≤ how_many p n
   unfolding how_many

@@ -1,13 +1,14 @@
 -- The writer of case files (K2): "write the case file into a lent slice and return its length. .. Bytes past the length are untouched. Unfit input is refused by 3, 1,
 -- 2, 4 and 5 in that order, memory as in their rows. It refuses with 15 a slice shorter than the file, after all other checks, untouched."
-use Rattle.std.specs.Prelude.{ℕ, ◌-◌, ◌≡◌, not, List, ◌++◌, leb, ltb, ℤ, length, drop, replicate}
+use Rattle.std.specs.Prelude.{ℕ, ◌-◌, ◌≡◌, not, Result, Ok, Err, List, ◌++◌, leb, ltb, ℤ, length, drop, replicate}
 use Rattle.common.specs.Rows.{row, zeros}
+use Rattle.common.specs.Refusals.{at_zero}
+use Rattle.common.specs.declared.refusal.Fault.{Fault}
+use Rattle.common.specs.declared.refusal.Refusal.TheVariants.{NoProfile, NoWeekday, OutOfRange}
 use Rattle.profile.specs.Limits.{profile_count}
 use Rattle.weights.specs.Means.{first_out, some_out}
 use Rattle.weights.specs.Weights.{weights_of}
 use Rattle.account.specs.Account.{Account, account, unfit_lengths, sound}
-use Rattle.casewriter.specs.declared.WriteAnswer.{WriteAnswer}
-use Rattle.casewriter.specs.declared.WriteAnswer.TheVariants.{Length, Refused}
 use Rattle.casewriter.specs.File.{file_of}
 
 -- the account that is written, "over the weights of those means with K1's bytes 7 throughout"
@@ -32,18 +33,13 @@ ruling profile weekday means marks counts before =
     (row (ltb (length before) (length file)) (record { number = 15; place = 0; size = 0; memory = before })  -- a slice shorter than the file
     (record { number = 0; place = 0; size = length file; memory = file ++ drop (length file) before }))))))
 
--- the number, the place and the length of each answer; 0 is done, a refused length is 0
-abbrev pub number : WriteAnswer → ℕ
-number (Length n) = 0
-number (Refused r at) = r
-
-abbrev pub place : WriteAnswer → ℕ
-place (Length n) = 0
-place (Refused r at) = at
-
-abbrev pub size : WriteAnswer → ℕ
-size (Length n) = n
-size (Refused r at) = 0
+-- rows 1, 2 and 4 alone
+abbrev pub series_rows : (profile weekday : ℕ) (means : List ℤ) → Result (Unit {0}) Fault
+series_rows profile weekday means =
+    row (leb profile_count profile) (Err (at_zero NoProfile))
+    (row (ltb 6 weekday) (Err (at_zero NoWeekday))
+    (row (some_out means) (Err (record { refusal = OutOfRange; place = first_out means }))
+    (Ok tt)))
 
 pub record WriteMet (profile weekday : ℕ) (means : List ℤ) (marks counts before : List ℕ) (answered placed given : ℕ) (after : List ℕ) (means_after : List ℤ) (marksAfter countsAfter : List ℕ) : Type 0 where
   pub answers : answered ≡ (ruling profile weekday means marks counts before).number

@@ -5,24 +5,15 @@ ghost use Rattle.casewriter.specs.Bytes.{little_bytes, twos};
 
 // Stores the lowest `width` bytes of n from an offset on.
 pub(crate) fn number(out: &mut [u8], at: usize, width: usize, n: u64)
-    requires { at + width ≤ length out.old }
+    requires { (width ≤ 8) × (at + width ≤ length out.old) }
     ensures { out.new ≡ sets out.old at (little_bytes width n) }
 {
-    let mut rest = n;
-    let mut i = 0;
-    while i < width {
-        out[at + i] = (rest % 256) as u8;
-        rest = rest / 256;
-        i += 1;
-    }
+    out[at..at + width].copy_from_slice(&n.to_le_bytes()[..width]);
 }
 
 // Gives the 16-bit number that two's complement has for a mean.
 pub(crate) fn twos(mean: i16) -> u64
     ensures { result ≡ twos mean }
 {
-    if mean < 0 {
-        return 65_535 - (-1 - mean) as u64;
-    }
-    mean as u64
+    u64::from(mean.cast_unsigned())
 }

@@ -166,6 +166,11 @@ module _ (p : ℕ → Bool) where
   pub first_at : (m k : ℕ) → k < m → somewhere p k ≡ false → p k ≡ true → first p m ≡ k
   first_at m k l e h = first_is (record { below = l; holds = h; none_before = none_at k e })
 
+  pub last_none : (m : ℕ) → ((k : ℕ) → k < m → p k ≡ false) → last p m ≡ 0
+  unfolding last
+  last_none zero h = refl
+  last_none (suc m) h = rw (h m (omega arith)) (last_none m (λ k l. h k (omega arith)))
+
   pub last_zero : last p 0 ≡ 0
   unfolding last
   last_zero = refl

@@ -2,5 +2,5 @@
 pub mod Rows
 pub mod Lists
 pub mod Below
-pub mod Clear
+pub mod Chains
 pub mod Filled

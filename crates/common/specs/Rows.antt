@@ -10,9 +10,13 @@ row false here below = below
 abbrev pub if_done {ℓ} : {A : Type ℓ} → ℕ → A → A → A
 if_done number done refused = cond (eqb number 0) done refused
 
+-- one value in the place of each element of a slice
+abbrev pub set_to : {A : Type 0} → A → List A → List A
+set_to x out = replicate (length out) x
+
 -- "outputs zero": zeros in the place of what a slice holds
 abbrev pub zeros : List ℕ → List ℕ
-zeros out = replicate (length out) 0
+zeros out = set_to 0 out
 
 -- "the rest zero": xs at the start of a slice of length n
 abbrev pub filled : ℕ → List ℕ → List ℕ

@@ -1,45 +1,49 @@
-// Slices set to zero over their whole length (If a call declines: "outputs zero"), one loop for each width.
+// What every layer shares: slices set to zero over their whole length, and the rows of the table of refusals (If a call declines).
 #![tactic(auto)]
 
+mod refusal;
+
 ghost use Rattle.std.specs.Prelude.{◌≡◌};
-ghost use Rattle.common.specs.Rows.{zeros};
+ghost use Rattle.common.specs.Rows.{set_to};
 
-pub fn clear_u8(bytes: &mut [u8])
-    ensures { bytes.new ≡ zeros bytes.old }
-{
-    let mut i = 0;
-    while i < bytes.len() {
-        bytes[i] = 0;
-        i += 1;
-    }
+pub use refusal::{Fault, Refusal};
+
+// A type of numbers, with its zero.
+pub trait Number: Copy {
+    ghost ZERO: { Self };
+
+    const ZERO: Self;
 }
 
-pub fn clear_u16(shorts: &mut [u16])
-    ensures { shorts.new ≡ zeros shorts.old }
-{
-    let mut i = 0;
-    while i < shorts.len() {
-        shorts[i] = 0;
-        i += 1;
-    }
+impl Number for u8 {
+    ghost ZERO = { 0 };
+
+    const ZERO: u8 = 0;
 }
 
-pub fn clear_u32(words: &mut [u32])
-    ensures { words.new ≡ zeros words.old }
-{
-    let mut i = 0;
-    while i < words.len() {
-        words[i] = 0;
-        i += 1;
-    }
+impl Number for u16 {
+    ghost ZERO = { 0 };
+
+    const ZERO: u16 = 0;
 }
 
-pub fn clear_u64(longs: &mut [u64])
-    ensures { longs.new ≡ zeros longs.old }
+impl Number for u32 {
+    ghost ZERO = { 0 };
+
+    const ZERO: u32 = 0;
+}
+
+impl Number for u64 {
+    ghost ZERO = { 0 };
+
+    const ZERO: u64 = 0;
+}
+
+// Sets a whole slice to zero.
+pub fn clear<T: Number>(numbers: &mut [T])
+    ensures { numbers.new ≡ set_to T.ZERO numbers.old }
 {
-    let mut i = 0;
-    while i < longs.len() {
-        longs[i] = 0;
-        i += 1;
+    for number in numbers.iter_mut() {
+        *number = T::ZERO;
     }
 }

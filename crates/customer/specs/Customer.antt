@@ -6,23 +6,6 @@ use Rattle.rounding.specs.Nearest.{nearest}
 use Rattle.account.specs.Account.{good_weight, good_weights, energy_most}
 use Rattle.common.specs.Rows.{row, if_done}
 use Rattle.common.specs.Lists.{sum_of}
-use Rattle.customer.specs.declared.CustomerAnswer.{CustomerAnswer}
-use Rattle.customer.specs.declared.CustomerAnswer.TheVariants.{Given, Unfit, Unsound, TooMuch, TooGreat}
-
--- the paper's number and value for each answer; 0 is done, and a refused value is 0
-abbrev pub number : CustomerAnswer → ℕ
-number (Given v) = 0
-number Unfit = 3
-number Unsound = 5
-number TooMuch = 9
-number TooGreat = 12
-
-abbrev pub value : CustomerAnswer → ℕ
-value (Given v) = v
-value Unfit = 0
-value Unsound = 0
-value TooMuch = 0
-value TooGreat = 0
 
 -- Z is the sum of w
 abbrev pub customer_value : ℕ → List ℕ → ℕ

@@ -3,11 +3,19 @@
 use Rattle.std.specs.Prelude.{ℕ, ◌+◌, ◌≡◌, List, ℤ}
 use Rattle.weights.specs.Choose.{Series, Measured, Forecast, Neither, choice}
 use Rattle.ffi.specs.declared.Outcome.{Outcome}
+use Rattle.ffi.specs.declared.Temperature.{Temperature}
+use Rattle.ffi.specs.declared.Values.{Values}
 use Rattle.ffi.specs.declared.Chosen.{Chosen}
 
 -- the number, the place and the value that a call returns
 abbrev pub outcome_of : ℕ → ℕ → ℕ → Outcome
 outcome_of number place value = record { number = number; place = place; value = value }
+
+abbrev pub temperature_of : ℕ → ℕ → ℤ → Temperature
+temperature_of number place value = record { number = number; place = place; value = value }
+
+abbrev pub values_of : ℕ → ℕ → ℤ → ℤ → Values
+values_of number place low high = record { number = number; place = place; low = low; high = high }
 
 -- the number of the series that the chooser returns means of, and how many of these there are
 abbrev pub series_number : Series → ℕ

@@ -1,5 +1,5 @@
 // The calls for C and Rust, on slices and numbers: each is the call below it, its answer given as the number, place and values of the table (If a call declines).
-// include/arvadush.h declares them. Crate ffi_c exports them to C.
+// include/arvadush.h declares them. Crate ffi_c exports them to C. Kept: a struct with a number, or the number alone, since C has no `Result`.
 #![tactic(auto)]
 
 mod returned;
@@ -21,11 +21,6 @@ ghost use Rattle.residual.specs.Spread as spreads;
 ghost use Rattle.residual.specs.Spread.{points};
 ghost use Rattle.residual.specs.Call.{SpreadMet};
 ghost use Rattle.ffi.specs.Calls.{ChooseReturned};
-
-use returned::{
-    temperature_number, temperature_place, temperature_value, value_high, value_low, value_number,
-    value_place,
-};
 
 // The table's number (0 is done), the place or index that goes with it, and the value; 0 where there is none.
 #[derive(Clone, Copy)]
@@ -67,12 +62,7 @@ pub struct Chosen {
 pub fn arvadush_temperature(a: i16, b: i16, c: i16, d: i16) -> Temperature
     ensures { TemperatureMet a b c d result.number result.place result.value }
 {
-    let answer = weights::temperature(a, b, c, d);
-    Temperature {
-        number: temperature_number(answer),
-        place: temperature_place(answer),
-        value: temperature_value(answer),
-    }
+    weights::temperature(a, b, c, d).into()
 }
 
 // The means of a span of n days: which series serves, and its first n + 3 means; none where neither does.
@@ -103,20 +93,16 @@ pub fn arvadush_choose<'a>(measured: &'a [i16], forecast: &'a [i16], n: usize) -
 pub fn arvadush_value(profile: u8, t: i16) -> Values
     ensures { ValueMet profile t result.number result.place result.low result.high }
 {
-    let answer = profile::value(profile, t);
-    Values {
-        number: value_number(answer),
-        place: value_place(answer),
-        low: value_low(answer),
-        high: value_high(answer),
-    }
+    profile::value(profile, t).into()
 }
 
 // The weight of one day.
 pub fn arvadush_day_weight(profile: u8, weekday: u8, t: i16) -> Outcome
     ensures { WeightMet profile weekday t result.number result.place result.value }
 {
-    returned::weight(profile::day_weight(profile, weekday, t))
+    profile::day_weight(profile, weekday, t)
+        .map(u64::from)
+        .into()
 }
 
 // The weight of each day of a span, from its means, oldest first, the weekday of day 0, and which weekday each day counts as (7: its own).
@@ -129,7 +115,9 @@ pub fn arvadush_weights(
 ) -> Outcome
     ensures { WeightsMet profile weekday means.now calendar.now out.old result.number result.place out.new means.now calendar.now × (result.value ≡ 0) }
 {
-    returned::weights(weights::weights(profile, weekday, means, calendar, out))
+    weights::weights(profile, weekday, means, calendar, out)
+        .map(|()| 0)
+        .into()
 }
 
 // Clears marks and counts, whatever they held.
@@ -184,21 +172,23 @@ pub fn arvadush_statement(
 ) -> Outcome
     ensures { StatementMet (account weights.now marks.now counts.now) (outputs from.old to.old wh.old) result.number result.value (account weights.now marks.now counts.now) (outputs from.new to.new wh.new) × (result.place ≡ 0) }
 {
-    returned::statement(statement::statement(weights, marks, counts, from, to, wh))
+    statement::statement(weights, marks, counts, from, to, wh)
+        .map(|parts| parts as u64)
+        .into()
 }
 
 // The customer value of this energy in Wh over these weights, in units of 0.1 Wh.
 pub fn arvadush_customer_value(energy: u64, weights: &[u32]) -> Outcome
     ensures { CustomerMet energy weights.now result.number result.value weights.now × (result.place ≡ 0) }
 {
-    returned::customer(customer::customer_value(energy, weights))
+    customer::customer_value(energy, weights).into()
 }
 
 // The Wh of a day with this weight for a customer with this value.
 pub fn arvadush_daily_amount(value: u64, weight: u32) -> Outcome
     ensures { AmountMet value weight result.number result.value × (result.place ≡ 0) }
 {
-    returned::customer(customer::daily_amount(value, weight))
+    customer::daily_amount(value, weight).into()
 }
 
 // Reads a case file into the slices of an account, of lengths 1,096, 1,097 and 1,097, the rest zero; its value is n.
@@ -210,7 +200,9 @@ pub fn arvadush_read(
 ) -> Outcome
     ensures { ReadMet file.now (account weights.old marks.old counts.old) result.number result.place result.value (account weights.new marks.new counts.new) file.now }
 {
-    returned::case(casefile::read_case(file, weights, marks, counts))
+    casefile::read_case(file, weights, marks, counts)
+        .map(|days| days as u64)
+        .into()
 }
 
 // Writes the case file of an account to the start of out; its value is the length of the file.
@@ -224,14 +216,18 @@ pub fn arvadush_write(
 ) -> Outcome
     ensures { WriteMet profile weekday means.now marks.now counts.now out.old result.number result.place result.value out.new means.now marks.now counts.now }
 {
-    returned::file(casewriter::write_case(profile, weekday, means, marks, counts, out))
+    casewriter::write_case(profile, weekday, means, marks, counts, out)
+        .map(|length| length as u64)
+        .into()
 }
 
 // Lays out the page of an account; its value is the number of bytes.
 pub fn arvadush_page(weights: &[u32], marks: &[u8], counts: &[u64], page: &mut [u8]) -> Outcome
     ensures { PageMet (account weights.now marks.now counts.now) page.old result.number result.value (account weights.now marks.now counts.now) page.new × (result.place ≡ 0) }
 {
-    returned::page(page::page(weights, marks, counts, page))
+    page::page(weights, marks, counts, page)
+        .map(|bytes| bytes as u64)
+        .into()
 }
 
 // Spreads the residual load over the points; its value is the network's total.
@@ -244,7 +240,7 @@ pub fn arvadush_spread(
 ) -> Outcome
     ensures { SpreadMet load (points suppliers.now bases.now) (spreads.outputs amounts.old totals.old) result.number result.value (points suppliers.now bases.now) (spreads.outputs amounts.new totals.new) × (result.place ≡ 0) }
 {
-    returned::spread(residual::spread(load, suppliers, bases, amounts, totals))
+    residual::spread(load, suppliers, bases, amounts, totals).into()
 }
 
 // The text of a statement of so many parts, at the start of out; the length of the whole text.

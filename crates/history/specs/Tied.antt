@@ -5,7 +5,9 @@ use Rattle.std.specs.Prelude.{◌≡◌}
 use contract.Lifetimes
 use borrow.Fn.Kinds
 use Rattle.account.specs.Account.{account}
-use Rattle.account.specs.Calls.{number, OpenMet}
+use Rattle.common.specs.Refusals.{number, value}
+use Rattle.common.specs.Placed as placed
+use Rattle.account.specs.Calls.{OpenMet}
 use Rattle.account.proofs.open.Kinds as open-kinds
 use Rattle.account.proofs.open.Reads as open-reads
 use Rattle.account.proofs.reading.Kinds as reading-kinds
@@ -17,11 +19,9 @@ use Rattle.account.proofs.cut.Reads as cut-reads
 use Rattle.account.proofs.uncut.Kinds as uncut-kinds
 use Rattle.account.proofs.uncut.Reads as uncut-reads
 use Rattle.weights.specs.Weights.{WeightsMet}
-use Rattle.weights.specs.Weights as weights
 use Rattle.weights.proofs.weights.Kinds as weights-kinds
 use Rattle.weights.proofs.weights.Reads as weights-reads
 use Rattle.statement.specs.Parts.{outputs}
-use Rattle.statement.specs.Call as statement
 use Rattle.statement.proofs.statement.Kinds as statement-kinds
 use Rattle.statement.proofs.statement.Reads as statement-reads
 use Rattle.history.specs.Run.{Step}
@@ -48,11 +48,11 @@ pub record Tied : Type 1 where
   pub statement_is : (κs : Lifetimes.Lfts 6) (a : Kinds.Dens κs statement-kinds.ps) (r : _) (s : _) →
       statement-reads.Post κs a r s ≡
       Step (account a.0.now a.1.0.now a.1.1.0.now)
-      (run.statement (outputs a.1.1.1.0.now a.1.1.1.1.0.now a.1.1.1.1.1.0.now) (statement.number r) (statement.part_count r) (account a.0.now a.1.0.now a.1.1.0.now)
+      (run.statement (outputs a.1.1.1.0.now a.1.1.1.1.0.now a.1.1.1.1.1.0.now) (number r) (value r) (account a.0.now a.1.0.now a.1.1.0.now)
       (outputs s.1.1.1.0.now s.1.1.1.1.0.now s.1.1.1.1.1.0.now))
   pub weights_is : (κs : Lifetimes.Lfts 3) (a : Kinds.Dens κs weights-kinds.ps) (r : _) (s : _) →
       weights-reads.Post κs a r s ≡
-      WeightsMet a.0 a.1.0 a.1.1.0.now a.1.1.1.0.now a.1.1.1.1.0.now (weights.number r) (weights.place r) s.1.1.1.1.0.now a.1.1.0.now a.1.1.1.0.now
+      WeightsMet a.0 a.1.0 a.1.1.0.now a.1.1.1.0.now a.1.1.1.1.0.now (placed.number r) (placed.place r) s.1.1.1.1.0.now a.1.1.0.now a.1.1.1.0.now
   pub open_asks_nothing : AsksNothing open-reads.Pre
   pub reading_asks_nothing : AsksNothing reading-reads.Pre
   pub withdraw_asks_nothing : AsksNothing withdraw-reads.Pre

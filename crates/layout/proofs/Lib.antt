@@ -3,6 +3,7 @@ pub mod Decimal
 pub mod ReadBack
 pub mod Laid
 pub mod Sums
+pub mod Cut
 pub mod Full
 pub mod Texts
 pub mod Fits

@@ -9,7 +9,6 @@ fn byte(out: &mut [u8], at: usize, b: u8) -> usize
 {
     if at < out.len() {
         out[at] = b;
-        return at + 1;
     }
     at + 1
 }
@@ -19,12 +18,11 @@ pub(crate) fn word(out: &mut [u8], at: usize, text: &[u8]) -> usize
     requires { at + length text.now < 2 ^ 62 }
     ensures { LaidOut at text.now out.old result out.new }
 {
-    let mut i = 0;
-    while i < text.len() {
-        byte(out, at + i, text[i]);
-        i += 1;
+    let mut next = at;
+    for b in text {
+        next = byte(out, next, *b);
     }
-    at + i
+    next
 }
 
 // A digit in ASCII.

@@ -4,8 +4,11 @@ use mathlib.Core.Path.{◌≡◌, refl, sym, ap, ◌∙◌}
 use mathlib.Core.List.{List, [], ◌∷◌, ◌++◌, append_assoc}
 use native.Mathlib.Nat.{add-zero}
 use native.Mathlib.Omega.{arith}
-use lib.ListN.{length, set, replicate, length-append, length-replicate, replicate-append-replicate}
-use lib.Seq.{sets, set_comm}
+use lib.ListN.{length, set, take, drop, replicate, length-append, length-drop, length-replicate}
+use lib.Seq.{sets, sets-eq, set_comm, length-take-le}
+use borrow.Rule.Slice.PartMut.{put_mid}
+use Rattle.std.proofs.lemmas.List.{take_all}
+use Rattle.std.proofs.lemmas.Slice.{put_mid-paste}
 use Rattle.layout.specs.Text.{digit, decimal}
 use Rattle.layout.proofs.Decimal.{one_digit, last_digit, some_digit}
 use Rattle.page.specs.Page.{aligned}
@@ -20,17 +23,23 @@ sets_last o at (y ∷ xs) x =
     ap (λ (k : ℕ). sets (set (set o at y) k x) (suc at) xs) next ∙
     ap (λ (l : List ℕ). sets l (suc at) xs) (set_comm o at (at + suc (length xs)) y x (λ e. omega arith))
 
+-- spaces written to a part of a slice
+pub spaces_stored : (page : List ℕ) (at end : ℕ) → end ≤ length page → at ≤ end → {spaces : List ℕ} →
+    spaces ≡ replicate (length (take (end - at) (drop at page))) 32 → put_mid at (end - at) page spaces ≡ sets page at (replicate (end - at) 32)
+spaces_stored page at end inside order is =
+    let k = end - at in
+    let text : List ℕ = replicate k 32 in
+    let long = length-replicate {A = ℕ} k 32 in
+    let room = length-take-le k (drop at page) (omega (arith, length-drop at page)) in
+    put_mid-paste at k page _ text k (is ∙ ap (λ (n : ℕ). replicate n 32) room) refl (sym long) ∙
+    ap (λ (t : List ℕ). take at page ++ t ++ drop (at + k) page) (take_all k text (omega (arith, long))) ∙
+    ap (λ (n : ℕ). take at page ++ text ++ drop (at + n) page) (sym long) ∙
+    sym (sets-eq text page at (omega (arith, long)))
+
 -- so a text that ends at `end` is stored from the right
 module _ (page : List ℕ) (at end : ℕ) where
   from_right : (text xs : List ℕ) (x : ℕ) → text ≡ xs ++ (x ∷ []) → at + length xs ≡ end - 1 → sets (set page (end - 1) x) at xs ≡ sets page at text
   from_right text xs x is long = sym (ap (sets page at) is ∙ sets_last page at xs x ∙ ap (λ (k : ℕ). sets (set page k x) at xs) long)
-
-  pub space_stored : at < end → sets (set page (end - 1) 32) at (replicate (end - 1 - at) 32) ≡ sets page at (replicate (end - at) 32)
-  space_stored l =
-      let one : end - at ≡ end - 1 - at + 1 = omega arith in
-      from_right (replicate (end - at) 32) (replicate (end - 1 - at) 32) 32
-      (ap (λ (k : ℕ). replicate k 32) one ∙ sym (replicate-append-replicate (end - 1 - at) 1 32))
-      (omega (arith, length-replicate {A = ℕ} (end - 1 - at) 32))
 
   module _ (n : ℕ) where
     -- the first digit, the last that is stored: only spaces are left

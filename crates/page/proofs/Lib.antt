@@ -1,5 +1,6 @@
 -- The laws that the proofs of crate page share, and its theorems (K4).
 pub mod Sizes
+mod Cut
 mod Columns
 mod Stored
 mod Table

@@ -1,15 +1,21 @@
 -- The table of a page (K4), by what the statement call answers. Assumes nothing.
 use Prim.Native.Nat.{ℕ, suc, ◌≤◌, ◌<◌}
 use mathlib.Core.Path.{◌≡◌, refl, sym, ap, ◌∙◌}
-use mathlib.Core.Bool.{false, and-false}
+use mathlib.Core.Bool.{true, false, and-false}
 use mathlib.Core.List.{List}
 use native.Mathlib.Omega.{arith}
 use borrow.Author.Tests.{lt-leb, ltb-false, eq-eqb, ne_eqb}
 use lib.Dec.{eqb, ltb}
 use lib.ListN.{length, take}
 use lib.Seq.{length-take-le}
+use denote.Enum.Bare.{sameb}
+use borrow.Author.Rules.{rules}
+use Rattle.common.specs.contracts.refusal.Refusal.{the_type}
+use Rattle.common.specs.declared.refusal.Refusal.{Refusal}
+use Rattle.common.specs.declared.refusal.Refusal.TheVariants.{TooFewReadings}
+use Rattle.common.specs.Refusals.{number_of}
 use Rattle.common.specs.Rows.{row, zeros}
-use Rattle.common.proofs.Below.{neither, last_less}
+use Rattle.common.proofs.Below.{clash, neither, last_less}
 use Rattle.profile.specs.Limits.{span_most}
 use Rattle.account.specs.Account.{Account, days, shown}
 use Rattle.account.specs.Slices.{Checked}
@@ -106,3 +112,24 @@ told a o long number count out met lent =
     (λ u s is. (rw (is, u, s) refl, λ done. absurd (omega arith)))
     (λ ok few is. (rw (is, ok.fits, ok.sound, few) refl, λ done. absurd (omega arith)))
     (λ ok few is count_is out-is. (rw (is, ok.fits, ok.sound, few, count_is, out-is) refl, λ done. rw (count_is, out-is) (printable a ok few)))
+
+-- the same of a statement that is given: the last row, and parts that can be printed
+pub told_done : (a : Account) (o : Outputs) → unfit_outputs (days a) o ≡ false → (count : ℕ) (out : Outputs) → StatementMet a o 0 count a out → (lent : List ℕ) →
+    (ruling a lent ≡ length_row count (page_text out count) lent) × Printable out count
+told_done a o long count out met lent = let both = told a o long 0 count out met lent in (both.0, both.1 refl)
+
+eleven : (r : Refusal) → number_of r ≡ 11 → sameb the_type r TooFewReadings ≡ true
+eleven r is = search rules
+
+not_done : (r : Refusal) → number_of r ≡ 0 → ⊥
+not_done r is = search rules
+
+-- a row by which the statement call declines, 11 apart, leaves the page
+pub refused : (a : Account) (o : Outputs) → unfit_outputs (days a) o ≡ false → (r : Refusal) (out : Outputs) → StatementMet a o (number_of r) 0 a out →
+    sameb the_type r TooFewReadings ≡ false → (lent : List ℕ) → PageMet a lent (number_of r) 0 a lent
+refused a o long r out met other lent =
+    by_row a a o long (number_of r) 0 out met (PageMet a lent (number_of r) 0 a lent)
+    (λ u is. rw is (ruled a lent (record { number = 3; size = 0; memory = lent }) (rw u refl) refl))
+    (λ u s is. rw is (ruled a lent (record { number = 5; size = 0; memory = lent }) (rw (u, s) refl) refl))
+    (λ ok few is. absurd (clash (eleven r is) other))
+    (λ ok few is count_is out-is. absurd (not_done r is))

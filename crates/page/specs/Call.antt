@@ -5,8 +5,6 @@ use Rattle.common.specs.Rows.{row, zeros}
 use Rattle.account.specs.Account.{Account, days, shown, unfit, sound}
 use Rattle.statement.specs.Parts.{parts_of, statement_of}
 use Rattle.statement.specs.Call.{too_few_readings}
-use Rattle.page.specs.declared.PageAnswer.{PageAnswer}
-use Rattle.page.specs.declared.PageAnswer.TheVariants.{Bytes, Refused}
 use Rattle.page.specs.Page.{page_text, page_length}
 
 -- what the table lays down for a call: the number, the number of bytes that is returned, and what the page then holds
@@ -28,15 +26,6 @@ ruling a lent =
     (row (not (sound a)) (record { number = 5; size = 0; memory = lent })  -- account unsound
     (row (too_few_readings (days a) (shown a).readings) (record { number = 11; size = 0; memory = zeros lent })  -- fewer than two readings
     (length_row parts (page_text (statement_of a.weights (shown a)) parts) lent)))
-
--- the number and the bytes of each answer; 0 is done, a refused number of bytes is 0
-abbrev pub number : PageAnswer → ℕ
-number (Bytes n) = 0
-number (Refused r) = r
-
-abbrev pub size : PageAnswer → ℕ
-size (Bytes n) = n
-size (Refused r) = 0
 
 pub record PageMet (before : Account) (lent : List ℕ) (answered given : ℕ) (after : Account) (page : List ℕ) : Type 0 where
   pub answers : answered ≡ (ruling before lent).number

@@ -4,97 +4,100 @@
 ghost use Rattle.std.specs.Prelude.{◌≡◌, false, ◌+◌, ◌≤◌, length};
 ghost use Rattle.std.proofs.lemmas.List.Edits.{sets};
 ghost use Rattle.account.specs.Account.{account};
+ghost use Rattle.account.specs.Slices.{lent};
 ghost use Rattle.statement.specs.Parts.{outputs};
 ghost use Rattle.statement.specs.Call.{unfit_outputs};
 ghost use Rattle.layout.specs.Text.{decimal};
 ghost use Rattle.page.specs.Page.{aligned, page_line, page_text, page_length};
-ghost use Rattle.page.specs.Call.{number, size, PageMet};
+ghost use Rattle.common.specs.Refusals.{number, value};
+ghost use Rattle.page.specs.Call.{PageMet};
+ghost use Rattle.layout.specs.Parts.{held, count};
 ghost use Rattle.page.specs.Progress.{Small, Printable, LengthMet};
 
-use common::clear_u8;
+use account::Account;
+use common::{Refusal, clear};
+use layout::Parts;
 use profile::Profile;
-use statement::StatementAnswer;
-
-// What a page answers: the number of its bytes, or a row of the table.
-#[derive(Clone, Copy)]
-pub enum PageAnswer {
-    Bytes(usize),
-    Refused(u8),
-}
 
 // Lays out the page of an account, and returns the number of its bytes. Row 11 clears the page, the others leave it.
-pub fn page(weights: &[u32], marks: &[u8], counts: &[u64], page: &mut [u8]) -> PageAnswer
-    ensures { PageMet (account weights.now marks.now counts.now) page.old (number result) (size result) (account weights.now marks.now counts.now) page.new }
+// Kept: three slices, as C lends them; and inside arrays of the longest length, since there is no heap.
+pub fn page(
+    weights: &[u32],
+    marks: &[u8],
+    counts: &[u64],
+    page: &mut [u8],
+) -> Result<usize, Refusal>
+    ensures { PageMet (account weights.now marks.now counts.now) page.old (number result) (value result) (account weights.now marks.now counts.now) page.new }
 {
     let n = weights.len();
     if Profile::SPAN_MOST < n {
-        return PageAnswer::Refused(3);
+        return Err(Refusal::Unfit);
     }
     let mut from = [0u16; Profile::SPAN_MOST];
     let mut to = [0u16; Profile::SPAN_MOST];
     let mut wh = [0u64; Profile::SPAN_MOST];
-    with_outputs(
+    let account = Account {
         weights,
         marks,
         counts,
-        &mut from[..n],
-        &mut to[..n],
-        &mut wh[..n],
-        page,
-    )
+    };
+    with_outputs(account, &mut from[..n], &mut to[..n], &mut wh[..n], page)
 }
 
 // The same, by way of outputs that have the length for the statement.
 fn with_outputs(
-    weights: &[u32],
-    marks: &[u8],
-    counts: &[u64],
+    account: Account<'_>,
     from: &mut [u16],
     to: &mut [u16],
     wh: &mut [u64],
     page: &mut [u8],
-) -> PageAnswer
-    requires { unfit_outputs (length weights.now) (outputs from.old to.old wh.old) ≡ false }
-    ensures { PageMet (account weights.now marks.now counts.now) page.old (number result) (size result) (account weights.now marks.now counts.now) page.new }
+) -> Result<usize, Refusal>
+    requires { unfit_outputs (length account.weights.now) (outputs from.old to.old wh.old) ≡ false }
+    ensures { PageMet (lent account.entry) page.old (number result) (value result) (lent account.entry) page.new }
 {
-    match statement::statement(weights, marks, counts, from, to, wh) {
-        StatementAnswer::Parts(parts) => laid_out(from, to, wh, parts, page),
-        StatementAnswer::Unfit => PageAnswer::Refused(3),
-        StatementAnswer::Unsound => PageAnswer::Refused(5),
-        StatementAnswer::TooFewReadings => {
-            clear_u8(page);
-            PageAnswer::Refused(11)
+    match statement::statement(account.weights, account.marks, account.counts, from, to, wh) {
+        Ok(parts) => {
+            let given = Parts {
+                from: &from[..parts],
+                to: &to[..parts],
+                wh: &wh[..parts],
+            };
+            laid_out(given, page)
+        }
+        Err(refusal) => {
+            if refusal == Refusal::TooFewReadings {
+                clear(page);
+            }
+            Err(refusal)
         }
     }
 }
 
-// The page of a statement of so many parts, if the lent page has the length for them.
-fn laid_out(from: &[u16], to: &[u16], wh: &[u64], parts: usize, page: &mut [u8]) -> PageAnswer
-    requires { Printable (outputs from.now to.now wh.now) parts }
-    ensures { LengthMet parts (page_text (outputs from.now to.now wh.now) parts) page.old (number result) (size result) page.new }
+// The page of a statement's parts, if the lent page has the length for it.
+fn laid_out(parts: Parts<'_>, page: &mut [u8]) -> Result<usize, Refusal>
+    requires { Printable (held parts) (count parts) }
+    ensures { LengthMet (count parts.entry) (page_text (held parts.entry) (count parts.entry)) page.old (number result) (value result) page.new }
 {
-    let bytes = 41 * (parts + 1);
+    let bytes = 41 * (parts.from.len() + 1);
     if page.len() != bytes {
-        return PageAnswer::Refused(3);
+        return Err(Refusal::Unfit);
     }
-    lines(from, to, wh, parts, page);
-    PageAnswer::Bytes(bytes)
+    lines(parts, page);
+    Ok(bytes)
 }
 
 // The heading and a line for each part.
-fn lines(from: &[u16], to: &[u16], wh: &[u64], parts: usize, page: &mut [u8])
-    requires printable { Printable (outputs from.now to.now wh.now) parts }
-    requires page_len { length page.old ≡ page_length parts }
-    ensures { page.new ≡ page_text (outputs from.now to.now wh.now) parts }
+fn lines(parts: Parts<'_>, page: &mut [u8])
+    requires printable { Printable (held parts) (count parts) }
+    requires page_len { length page.old ≡ page_length (count parts) }
+    ensures { page.new ≡ page_text (held parts.entry) (count parts.entry) }
 {
     page[..41].copy_from_slice(b"  from    to            Wh           sum\n");
     let mut sum: u64 = 0;
-    let mut i = 0;
-    while i < parts {
-        let amount = wh[i];
+    for i in 0..parts.from.len() {
+        let amount = parts.wh[i];
         sum += amount;
-        line(from[i], to[i], amount, sum, page, 41 * (i + 1));
-        i += 1;
+        line(parts.from[i], parts.to[i], amount, sum, page, 41 * (i + 1));
     }
 }
 
@@ -103,8 +106,8 @@ fn line(from: u16, to: u16, wh: u64, sum: u64, page: &mut [u8], at: usize)
     requires { (at + 41 ≤ length page.old) × Small from to wh sum }
     ensures { page.new ≡ sets page.old at (page_line from to wh sum) }
 {
-    column(page, at, 6, from as u64);
-    column(page, at + 6, 6, to as u64);
+    column(page, at, 6, u64::from(from));
+    column(page, at + 6, 6, u64::from(to));
     column(page, at + 12, 14, wh);
     column(page, at + 26, 14, sum);
     page[at + 40] = b'\n';
@@ -117,15 +120,13 @@ fn column(page: &mut [u8], at: usize, width: usize, n: u64)
 {
     let mut end = at + width;
     let mut rest = n;
+    // Kept: no index is counted, but digits are taken until one is left.
     while 10 <= rest {
         end -= 1;
         page[end] = b'0' + ((rest % 10) as u8);
-        rest = rest / 10;
+        rest /= 10;
     }
     end -= 1;
     page[end] = b'0' + (rest as u8);
-    while at < end {
-        end -= 1;
-        page[end] = b' ';
-    }
+    page[at..end].fill(b' ');
 }

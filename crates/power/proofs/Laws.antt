@@ -4,6 +4,7 @@ use mathlib.Core.Path.{◌≡◌}
 use Prim.Native.Nat.{ℕ, ◌*◌, ◌^◌, ◌≤◌, ◌<◌}
 use native.Mathlib.Nat.{le_trans, le_of_mul-le-mul_right, one-le-pow}
 use native.Mathlib.Omega.{arith}
+use Rattle.std.proofs.lemmas.Bool.Decides.{nat_tests}
 use lib.Dec.{lit<}
 use borrow.Author.Tests.{ne_eqb, le-ltb}
 use Rattle.power.specs.declared.rounded.Rounding.TheVariants.{Down, Up}
@@ -65,6 +66,19 @@ module _ (N M C : ℕ) (pos : 0 < M) where
     pub high_one : p_high N M C ≡ one
     unfolding p_high
     high_one = rw ratio_one_lem (power_one Up (c_low C))
+
+-- no bound is above one, whatever the two numbers
+of_ratio_le : (N M p : ℕ) → (0 < M → N ≤ M → p ≤ one) → of_ratio N M p ≤ one
+unfolding of_ratio
+of_ratio_le N M p h = grind (arith, nat_tests, h)
+
+pub lower_le_one : (N M C : ℕ) → lower_of N M C ≤ one
+unfolding lower_of
+lower_le_one N M C = of_ratio_le N M (p_low N M C) (low_le_one N M C)
+
+pub upper_le_one : (N M C : ℕ) → upper_of N M C ≤ one
+unfolding upper_of
+upper_le_one N M C = of_ratio_le N M (p_high N M C) (high_le_one N M C)
 
 pub enclosing : Enclosing
 enclosing = enclosed

@@ -2,8 +2,10 @@
 -- Assumes nothing.
 use mathlib.Core.Path.{◌≡◌}
 use Prim.Native.Nat.{ℕ, ◌+◌, ◌-◌, ◌*◌, ◌/◌, ◌≤◌, ◌<◌}
-use native.Mathlib.Nat.{le_antisymm, le_refl, le_of_suc-le-suc, suc-mul, div-mul-le_self, le-div_iff_mul-le, div-lt_iff_lt-mul, lt-div-mul-add}
+use native.Mathlib.Nat.{le_antisymm, le_refl, le_of_suc-le-suc, suc-mul, div-mul-le_self, le-div_iff_mul-le, div-lt_iff_lt-mul, lt-div-mul-add, lt_of_mul-lt-mul_right}
 use native.Mathlib.Omega.{arith}
+use Rattle.std.specs.Int.{div_ceil}
+use Rattle.std.proofs.lemmas.Grind.{div_ceil_times}
 use Rattle.power.specs.declared.rounded.Rounding.{Rounding}
 use Rattle.power.specs.declared.rounded.Rounding.TheVariants.{Down, Up}
 use Rattle.power.specs.Power.{RoundedDown, RoundedUp, quotient, Quotients}
@@ -43,3 +45,14 @@ quotients a b h =
     let down : RoundedDown (λ q. q * b) a (a / b) = record { low = div-mul-le_self a b; greatest = λ t g. le_quotient Down a b t h g } in
     let up : RoundedUp (λ q. q * b) a ((a + (b - 1)) / b) = record { high = up_high a b h; least = λ t g. quotient_le Up a b t h g } in
     (down, up, λ q is. down_only is down, λ q is. up_only is up)
+
+-- `div_ceil` of the library is the quotient rounded up
+pub ceil_is : (a b : ℕ) → 0 < b → div_ceil a b ≡ quotient Up a b
+unfolding quotient
+ceil_is a b h =
+    let bounds = div_ceil_times a b h in
+    (quotients a b h).3 (div_ceil a b)
+    (record {
+      high = bounds.0;
+      least = λ t g. le_of_suc-le-suc (lt_of_mul-lt-mul_right b (omega arith));
+    })

@@ -24,10 +24,8 @@ fn raise(way: Rounding, r: u64, n: u64) -> u64
     ensures { result ≡ spec.raise way n r one }
 {
     let mut p = ONE;
-    let mut left = n;
-    while 0 < left {
+    for _ in 0..n {
         p = rounded::product(way, p, r);
-        left -= 1;
     }
     p
 }
@@ -39,11 +37,9 @@ fn times_roots(way: Rounding, r: u64, p: u64, c: u64) -> u64
 {
     let mut root = r;
     let mut q = p;
-    let mut left = 24u64;
-    while 0 < left {
-        left -= 1;
+    for bit in (0..24u64).rev() {
         root = rounded::next_root(way, root);
-        if (c >> left) % 2 == 1 {
+        if (c >> bit) % 2 == 1 {
             q = rounded::product(way, q, root);
         }
     }
@@ -62,13 +58,10 @@ fn power(way: Rounding, r: u64, c: u64) -> u64
 pub(crate) fn bound(way: Rounding, other: Rounding, n: u32, m: u32, c: u32) -> u64
     ensures { result ≡ spec.of_ratio n m (spec.power way (spec.quotient way (n * one) m) (spec.exponent other c)) }
 {
-    if m == 0 {
+    if m == 0 || m < n {
         return 0;
     }
-    if m < n {
-        return 0;
-    }
-    let r = rounded::quotient(way, n as u64 * ONE, m as u64);
-    let e = rounded::quotient(other, c as u64 * WHOLE, TEN_MILLION);
+    let r = rounded::quotient(way, u64::from(n) * ONE, u64::from(m));
+    let e = rounded::quotient(other, u64::from(c) * WHOLE, TEN_MILLION);
     power(way, r, e)
 }

@@ -18,7 +18,7 @@ pub fn lower(n: u32, m: u32, c: u32) -> u64
     by_roots::bound(Rounding::Down, Rounding::Up, n, m, c)
 }
 
-// The same power rounded up.
+// The same power rounded up. Kept beside `lower`: both are public, and one call of `bound` each.
 pub fn upper(n: u32, m: u32, c: u32) -> u64
     ensures { result ≡ upper_of n m c }
 {

@@ -1,25 +1,27 @@
 -- The range of values and weights over the whole table (Profile value): a value lies between that with no share at the warm end of the
 -- temperatures and that with a whole share at the cold end, since a share is at most one and no line rises. Assumes nothing.
-use mathlib.Core.Path.{◌≡◌, refl, sym}
+use mathlib.Core.Path.{◌≡◌, refl}
 use mathlib.Core.Bool.{true}
 use Prim.Native.Nat.{ℕ, ◌+◌, ◌-◌, ◌*◌, ◌/◌, ◌^◌, ◌≤◌, ◌<◌}
 use native.Mathlib.Nat.{div-le_of_le-mul, div-lt_iff_lt-mul, mul-le-mul, mul-le-mul_left}
 use native.Mathlib.Omega.{arith}
 use lib.Dec.{T, lit<}
 use lib.IntN.{ℤ, pos, negsuc, nat_abs, ◌+ℤ◌, ◌*ℤ◌}
-use lib.Signed.{non_neg, yes_non_neg, ◌≤ℤ◌, ≤ℤ_refl}
-use mir.Syntax.{w64}
-use mir.Val.{SFits}
+use lib.Signed.{mag, non_neg, yes_non_neg, ◌≤ℤ◌, ≤ℤ_refl}
+use mir.Syntax.{w16, w64}
+use mir.Val.{Fits, SFits, of_z, to_z}
+use mir.Facts.{to_z-of_z}
+use Rattle.std.proofs.lemmas.Int.{ints}
 use Rattle.power.specs.Power.{one, quotient, upward}
 use Rattle.rounding.specs.Integers.{floor_ℤ}
-use Rattle.rounding.proofs.Parts.{choose, parts, by_parts, less_sum}
+use Rattle.rounding.proofs.Parts.{choose}
 use Rattle.rounding.proofs.Integers.{floor_le}
-use Rattle.profile.specs.Limits.{in_range, coldest, weight_least, weight_most, profile_count}
+use Rattle.profile.specs.Limits.{in_range, weight_least, weight_most, profile_count}
 use Rattle.profile.specs.Coefficients.{profile_of}
 use Rattle.profile.specs.Value.{cold, s_low, s_high, line, linear, value_low, value_high}
 use Rattle.profile.specs.Weight.{factor_of, weight_of, WholeTable}
 use Rattle.profile.specs.declared.Profile.{Profile}
-use Rattle.profile.proofs.Integer.{le_trans, sum_le, scale_le, fall_le, larger_le, natural, at_least, at_most, sfits}
+use Rattle.profile.proofs.Integer.{le_trans, sum_le, scale_le, fall_le, larger_le, kept}
 use Rattle.profile.proofs.Range.{cold_le, le_warm}
 use Rattle.profile.proofs.Tested.{least, most, Tested, profile_tested}
 
@@ -69,17 +71,11 @@ module _ (p : Profile) (ok : Tested p) where
   module _ (t : ℤ) (r : in_range t ≡ true) (curve : ℕ) (h : curve ≤ p.a * 100) where
     value_least : least p ≤ℤ (pos curve +ℤ linear p t)
     value_least =
-        by_parts (omega (arith, parts (linear_le (le_warm t r)), (less_sum (pos curve) (linear p t)).less))
+        omega (arith, ints, linear_le (le_warm t r))
 
     value_most_lem : (pos curve +ℤ linear p t) ≤ℤ most p
     value_most_lem =
-        by_parts
-        (omega (
-          arith,
-          parts (linear_le (cold_le t r)),
-          (less_sum (pos curve) (linear p t)).less,
-          (less_sum (pos (p.a * 100)) (linear p coldest)).less,
-        ))
+        omega (arith, ints, linear_le (cold_le t r))
 
 -- of a natural number the floor is the quotient
 floor_natural : (z : ℤ) (f d : ℕ) → T (non_neg z) → nat_abs z * f / d ≡ nat_abs (floor_ℤ (z *ℤ pos f) d)
@@ -103,10 +99,10 @@ module _ (k : ℕ) (t : ℤ) (h : k < profile_count) (r : in_range t ≡ true) w
   low_most = value_most_lem (profile_of k) (profile_tested k h) t r _ low_curve
 
   -- the low value is a natural number of at most 10^10, and so is the high value
-  pub low_natural : pos 0 ≤ℤ value_low (profile_of k) t
+  low_natural : pos 0 ≤ℤ value_low (profile_of k) t
   low_natural = le_trans (profile_tested k h).natural low_least
 
-  pub low_bounded : value_low (profile_of k) t ≤ℤ pos (10 ^ 10)
+  low_bounded : value_low (profile_of k) t ≤ℤ pos (10 ^ 10)
   low_bounded = le_trans low_most (profile_tested k h).bounded
 
   high_natural : pos 0 ≤ℤ value_high (profile_of k) t
@@ -121,10 +117,14 @@ module _ (k : ℕ) (t : ℤ) (h : k < profile_count) (r : in_range t ≡ true) w
 
   -- so both fit 64 bits
   pub low_fits : SFits w64 (value_low (profile_of k) t)
-  low_fits = sfits (value_low (profile_of k) t) (omega (arith, at_most 0 (10 ^ 10) low_natural low_bounded))
+  low_fits = omega (arith, ints, low_natural, low_bounded)
 
   pub high_fits : SFits w64 (value_high (profile_of k) t)
-  high_fits = sfits (value_high (profile_of k) t) (omega (arith, at_most 0 (10 ^ 10) high_natural high_bounded))
+  high_fits = omega (arith, ints, high_natural, high_bounded)
+
+  -- the low value, cast
+  pub low_cast : T (non_neg (value_low (profile_of k) t)) × Fits w64 (nat_abs (value_low (profile_of k) t))
+  low_cast = (yes_non_neg low_natural, record { fits = omega (arith, ints, low_natural, low_bounded) })
 
   -- a weight is the quotient of natural numbers
   pub weight_quotient : (w : ℕ) → nat_abs (value_low (profile_of k) t) * factor_of k w / 10_000_000 ≡ weight_of k w t
@@ -146,16 +146,17 @@ module _ (k : ℕ) (t : ℤ) (h : k < profile_count) (r : in_range t ≡ true) w
 pub whole_table : WholeTable
 unfolding weight_of
 whole_table k w t h g r = (
-  sym (natural weight_least (heavy k t h r w g)),
-  at_least weight_least (heavy k t h r w g),
-  at_most weight_least weight_most (heavy k t h r w g) (light k t h r w g),
+  omega (arith, ints, heavy k t h r w g),
+  omega (arith, ints, heavy k t h r w g),
+  omega (arith, ints, heavy k t h r w g, light k t h r w g),
 )
 
--- the sums that the code forms are the values
-pub low_sum : (p : Profile) (t : ℤ) {s : ℕ} {x y : ℤ} → s ≡ s_low p t → x ≡ pos (p.a * 100 * s / 2 ^ 30) → y ≡ linear p t → x +ℤ y ≡ value_low p t
-unfolding value_low one
-low_sum p t e f g = simp (f, g, e)
+-- ---- the sums that the code forms are the values
+module _ (k : ℕ) {t : ℤ} (ft : SFits w16 t) {p : Profile} (is : p ≡ profile_of k) {s : ℕ} {x y : ℤ} (fx : mag x < 2 ^ 63) (fy : mag y < 2 ^ 63) (rest : y ≡ linear p (to_z w16 (of_z w16 t))) where
+  pub low_sum : s ≡ s_low p (to_z w16 (of_z w16 t)) → x ≡ pos (p.a * 100 * s / 2 ^ 30) → to_z w64 (of_z w64 x) +ℤ to_z w64 (of_z w64 y) ≡ value_low (profile_of k) t
+  unfolding value_low one
+  low_sum e f = rw (kept x fx, kept y fy, ← is) (simp (f, rest, e, to_z-of_z ft))
 
-pub high_sum : (p : Profile) (t : ℤ) {s : ℕ} {x y : ℤ} → s ≡ s_high p t → x ≡ pos (upward (p.a * 100 * s) (2 ^ 30)) → y ≡ linear p t → x +ℤ y ≡ value_high p t
-unfolding value_high one
-high_sum p t e f g = simp (f, g, e)
+  pub high_sum : s ≡ s_high p (to_z w16 (of_z w16 t)) → x ≡ pos (upward (p.a * 100 * s) (2 ^ 30)) → to_z w64 (of_z w64 x) +ℤ to_z w64 (of_z w64 y) ≡ value_high (profile_of k) t
+  unfolding value_high one
+  high_sum e f = rw (kept x fx, kept y fy, ← is) (simp (f, rest, e, to_z-of_z ft))

@@ -6,9 +6,8 @@ use native.Mathlib.Omega.{arith}
 use lib.Dec.{T}
 use lib.IntN.{ℤ, pos, nat_abs, ◌-ℤ◌}
 use lib.Signed.{le_z, non_neg, yes_non_neg, ◌≤ℤ◌}
-use Rattle.rounding.proofs.Parts.{parts, by_parts}
+use Rattle.std.proofs.lemmas.Int.{ints}
 use Rattle.profile.specs.Limits.{in_range, coldest, warmest}
-use Rattle.profile.proofs.Integer.{less_difference, at_least, at_most}
 
 both : (a b : Bool) → a && b ≡ true → (T a) × (T b)
 both true true e = (tt, tt)
@@ -25,17 +24,11 @@ module _ (t : ℤ) (r : in_range t ≡ true) where
   le_warm = record { le = (both (le_z coldest t) (le_z t warmest) r).1 }
 
   -- 4,000 - t is 1 to 9,000
-  least : pos 1 ≤ℤ (pos 4_000 -ℤ t)
-  least = by_parts (omega (arith, less_difference (pos 4_000) t, parts le_warm))
-
-  most : (pos 4_000 -ℤ t) ≤ℤ pos 9_000
-  most = by_parts (omega (arith, less_difference (pos 4_000) t, parts cold_le))
-
   pub steps_natural : T (non_neg (pos 4_000 -ℤ t))
-  steps_natural = yes_non_neg (by_parts {x = pos 0} {y = pos 4_000 -ℤ t} (omega (arith, parts least)))
+  steps_natural = yes_non_neg (omega (arith, ints, le_warm))
 
   pub steps_least : 1 ≤ nat_abs (pos 4_000 -ℤ t)
-  steps_least = at_least 1 least
+  steps_least = omega (arith, ints, le_warm)
 
   pub steps_most : nat_abs (pos 4_000 -ℤ t) ≤ 9_000
-  steps_most = at_most 1 9_000 least most
+  steps_most = omega (arith, ints, cold_le, le_warm)

@@ -1,5 +1,5 @@
 -- The table of ten profiles (Profiles), tested once by computation: what every profile of it has. Assumes nothing.
-use mathlib.Core.Path.{◌≡◌, refl}
+use mathlib.Core.Path.{◌≡◌}
 use mathlib.Core.Bool.{Bool, true, false, ◌&&◌}
 use mathlib.Core.List.{List, [], ◌∷◌}
 use Prim.Native.Nat.{ℕ, zero, suc, ◌*◌, ◌^◌, ◌<◌}
@@ -14,12 +14,6 @@ use Rattle.common.specs.Lists.{sum_of}
 use Rattle.profile.specs.Coefficients.{table, no_profile, profile_of}
 use Rattle.profile.specs.Value.{linear}
 use Rattle.profile.specs.declared.Profile.{Profile}
-
--- ---- lists
-pub get_d_any : {A : Type 0} (l : List A) (k : ℕ) (d e : A) → k < length l → get_or l k d ≡ get_or l k e
-get_d_any [] k d e h = absurd (not-suc-le-zero h)
-get_d_any (x ∷ l) zero d e h = refl
-get_d_any (x ∷ l) (suc k) d e h = get_d_any l k d e (le_of_suc-le-suc h)
 
 left : (a b : Bool) → T (a && b) → T a
 left true b t = tt

@@ -1,17 +1,16 @@
 -- The calls on profiles (If a call declines): rows 1, 2 and 4 of the table, for profile by number, profile value and day weight, and what these calls
 -- promise. "Checks run 3, 1, 2, 4"; "Single values refused are zero"; "The index of 4 is 0 for one temperature".
-use Rattle.std.specs.Prelude.{◌≡◌, not, ℕ, ◌≤◌, leb, ltb, ℤ, pos}
+use Rattle.std.specs.Prelude.{◌≡◌, not, Result, Ok, Err, ℕ, ◌≤◌, leb, ltb, ℤ, pos}
 use Rattle.common.specs.Rows.{row, if_done}
 use Rattle.profile.specs.Limits.{in_range, coldest, warmest, weight_least, weight_most, span_least, span_most, profile_count}
 use Rattle.common.specs.Lists.{sum_of}
-use Rattle.profile.specs.Coefficients.{profile_of}
+use Rattle.profile.specs.Coefficients.{profile_of, no_profile}
 use Rattle.profile.specs.Value.{value_low, value_high}
 use Rattle.profile.specs.Weight.{weight_of}
-use Rattle.profile.specs.declared.Numbered.{Numbered}
-use Rattle.profile.specs.declared.ValueAnswer.{ValueAnswer}
-use Rattle.profile.specs.declared.ValueAnswer.TheVariants as Valued
-use Rattle.profile.specs.declared.WeightAnswer.{WeightAnswer}
-use Rattle.profile.specs.declared.WeightAnswer.TheVariants as Weighed
+use Rattle.profile.specs.declared.Profile.{Profile}
+use Rattle.profile.specs.declared.curve.Values.{Values}
+use Rattle.common.specs.declared.refusal.Refusal.{Refusal}
+use Rattle.common.specs.declared.refusal.Fault.{Fault}
 
 -- ---- profile by number
 abbrev pub profile_number : ℕ → ℕ
@@ -19,10 +18,15 @@ profile_number profile =
     row (leb profile_count profile) 1  -- profile above 9
     0
 
-pub record ByNumberMet (profile : ℕ) (r : Numbered) : Type 0 where
-  pub answers : r.refusal ≡ profile_number profile
-  pub gives : r.profile ≡ profile_of profile
-  pub week : profile_number profile ≡ 0 → sum_of r.profile.factors ≡ 70_000
+-- the profile that an answer gives, one of zeros where a row declines
+abbrev pub profile_given : Result Profile Refusal → Profile
+profile_given (Ok p) = p
+profile_given (Err r) = no_profile
+
+pub record ByNumberMet (profile answered : ℕ) (given : Profile) : Type 0 where
+  pub answers : answered ≡ profile_number profile
+  pub gives : given ≡ profile_of profile
+  pub week : profile_number profile ≡ 0 → sum_of given.factors ≡ 70_000
 
 -- the limits, as the code names them
 pub record LimitsMet (cold warm : ℤ) (count : ℕ) : Type 0 where
@@ -45,26 +49,14 @@ value_number profile t =
     (row (not (in_range t)) 4  -- first mean out of range
     0)
 
--- the paper's number of an answer, its index, and its low and high value
-abbrev pub value_answered : ValueAnswer → ℕ
-value_answered (Valued.Value low high) = 0
-value_answered Valued.NoProfile = 1
-value_answered (Valued.OutOfRange k) = 4
+-- the low and the high value that an answer gives, 0 where a row declines
+abbrev pub low_given : Result Values Fault → ℤ
+low_given (Ok v) = v.low
+low_given (Err f) = pos 0
 
-abbrev pub value_placed : ValueAnswer → ℕ
-value_placed (Valued.Value low high) = 0
-value_placed Valued.NoProfile = 0
-value_placed (Valued.OutOfRange k) = k
-
-abbrev pub low_given : ValueAnswer → ℤ
-low_given (Valued.Value low high) = low
-low_given Valued.NoProfile = pos 0
-low_given (Valued.OutOfRange k) = pos 0
-
-abbrev pub high_given : ValueAnswer → ℤ
-high_given (Valued.Value low high) = high
-high_given Valued.NoProfile = pos 0
-high_given (Valued.OutOfRange k) = pos 0
+abbrev pub high_given : Result Values Fault → ℤ
+high_given (Ok v) = v.high
+high_given (Err f) = pos 0
 
 -- the value by the rules, 0 where there is none
 abbrev pub low_by_rule : ℕ → ℤ → ℤ
@@ -86,25 +78,6 @@ weight_number profile weekday t =
     (row (ltb 6 weekday) 2  -- weekday above 6
     (row (not (in_range t)) 4  -- first mean out of range
     0))
-
--- the paper's number of an answer, its index, and its weight
-abbrev pub weight_answered : WeightAnswer → ℕ
-weight_answered (Weighed.Weight w) = 0
-weight_answered Weighed.NoProfile = 1
-weight_answered Weighed.NoWeekday = 2
-weight_answered (Weighed.OutOfRange k) = 4
-
-abbrev pub weight_placed : WeightAnswer → ℕ
-weight_placed (Weighed.Weight w) = 0
-weight_placed Weighed.NoProfile = 0
-weight_placed Weighed.NoWeekday = 0
-weight_placed (Weighed.OutOfRange k) = k
-
-abbrev pub weight_given : WeightAnswer → ℕ
-weight_given (Weighed.Weight w) = w
-weight_given Weighed.NoProfile = 0
-weight_given Weighed.NoWeekday = 0
-weight_given (Weighed.OutOfRange k) = 0
 
 pub record WeightMet (profile weekday : ℕ) (t : ℤ) (answered placed given : ℕ) : Type 0 where
   pub answers : answered ≡ weight_number profile weekday t

@@ -1,13 +1,8 @@
 -- What the private functions of the profile value promise (Profile value): its steps, each equal to its definition.
-use Rattle.std.specs.Prelude.{◌≡◌, Bool, ℕ, ◌≤◌, ◌^◌, ℤ, nat_abs}
-use Rattle.profile.specs.Value.{cold, ratio_n, ratio_m, s_low, s_high, line, larger, value_low, value_high}
+use Rattle.std.specs.Prelude.{◌≡◌, ℕ, ◌≤◌, ◌^◌, ℤ, nat_abs}
+use Rattle.profile.specs.Value.{s_low, s_high, line, larger, value_low, value_high}
 use Rattle.profile.specs.Coefficients.{profile_of}
 use Rattle.profile.specs.declared.Profile.{Profile}
-
-pub record RatioMet (p : Profile) (t : ℤ) (side : Bool) (n m : ℕ) : Type 0 where
-  pub side_is : side ≡ cold p t
-  pub n_is : n ≡ ratio_n p t
-  pub m_is : m ≡ ratio_m p t
 
 pub record SharesMet (p : Profile) (t : ℤ) (low high : ℕ) : Type 0 where
   pub low_is : low ≡ s_low p t

@@ -133,5 +133,5 @@ pub(crate) fn profile_at(profile: u8) -> Profile
     requires { profile < profile_count }
     ensures { result ≡ profile_of profile }
 {
-    TABLE[profile as usize]
+    TABLE[usize::from(profile)]
 }

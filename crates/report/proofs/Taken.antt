@@ -1,26 +1,19 @@
--- A file that the reader takes or refuses (Case file): how much the slices then hold, and its text. Assumes nothing.
-use Prim.Native.Nat.{ℕ, ◌+◌, ◌-◌, ◌≤◌}
+-- A file that the reader takes or refuses (Case file): its text. Assumes nothing.
+use Prim.Native.Nat.{ℕ, ◌+◌}
 use mathlib.Core.Path.{◌≡◌, refl, sym, ap, ap₂, ◌∙◌}
 use mathlib.Core.Bool.{true}
 use mathlib.Core.List.{List}
-use native.Mathlib.Omega.{arith}
 use borrow.Author.Tests.{ne_eqb}
-use lib.ListN.{length, take, replicate, length-append}
-use Rattle.profile.specs.Limits.{span_most}
+use lib.ListN.{take}
 use Rattle.account.specs.Account.{Account, account, unfit}
 use Rattle.common.proofs.Below.{clash}
 use Rattle.layout.specs.Text.{refusal_text}
 use Rattle.casefile.specs.Case.{days_of, account_of}
-use Rattle.common.specs.Rows.{filled}
 use Rattle.casefile.specs.Reader.{fault_number, fault_place, verdict, ReadMet}
 use Rattle.casefile.proofs.Sound.{case_long, case_sound}
-use Rattle.casefile.proofs.Taken.{clean, accepted, after_is, weights_long, marks_long, counts_long, taken_is}
+use Rattle.casefile.proofs.Taken.{clean, accepted, taken_is}
 use Rattle.layout.specs.Accounts.{account_text}
 use Rattle.report.specs.Report.{case_text}
-
--- a list and the zeros after it are at least as long as the list
-filled_reaches : (m : ℕ) (xs : List ℕ) (n : ℕ) → length xs ≡ n → n ≤ length (filled m xs)
-filled_reaches m xs n long = omega (arith, long, length-append xs (replicate (m - length xs) 0))
 
 -- a file without a fault has days
 some_days : (s : List ℕ) (lent : Account) → fault_number (verdict s lent) ≡ 0 → days_of s ≡ 0 → ⊥
@@ -37,15 +30,6 @@ module _ (s : List ℕ) (lent : Account) (number place : ℕ) (after : Account) 
       says ∙ sym (ap₂ refusal_text met.answers met.places)
 
 module _ (s : List ℕ) (lent : Account) (n : ℕ) (after : Account) (met : ReadMet s lent 0 0 n after s) where
-  pub weights_reach : n ≤ length after.weights
-  weights_reach = omega (arith, ap (λ (a : Account). length a.weights) (after_is met), filled_reaches span_most (account_of s).weights n (weights_long met))
-
-  pub marks_reach : n + 1 ≤ length after.marks
-  marks_reach = omega (arith, ap (λ (a : Account). length a.marks) (after_is met), filled_reaches (span_most + 1) (account_of s).marks (n + 1) (marks_long met))
-
-  pub counts_reach : n + 1 ≤ length after.counts
-  counts_reach = omega (arith, ap (λ (a : Account). length a.counts) (after_is met), filled_reaches (span_most + 1) (account_of s).counts (n + 1) (counts_long met))
-
   pub taken_says : case_text s lent ≡ account_text (account (take n after.weights) (take (n + 1) after.marks) (take (n + 1) after.counts))
   taken_says =
       let says : case_text s lent ≡ account_text (account_of s) = rw (accepted met) refl in

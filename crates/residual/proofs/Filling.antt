@@ -72,13 +72,13 @@ module _ (load : ℕ) (suppliers bases : List ℕ) where
   part_most {amounts} {totals} {part} {before} {i} so_far h = omega (arith, so_far.part_is, sum_more bases i h, sum_first (suc i) bases)
 
   -- no amount falls below 0, and no total rises above the load
-  module _ {amounts totals : List ℕ} {part before i : ℕ} (after : ℕ) (so_far : Filling amounts totals part before i) (h : i < length bases)
-      (is : after ≡ rounded_share load (part + get_or bases i 0) (sum_of bases)) where
+  module _ {amounts totals : List ℕ} {part before i sum after : ℕ} (so_far : Filling amounts totals part before i) (h : i < length bases)
+      (sum_is : sum ≡ sum_of bases) (is : after ≡ rounded_share load (part + get_or bases i 0) sum) where
     pub reached : after ≡ share_before load bases (suc i)
     unfolding share_before
     reached =
         let parts : part + get_or bases i 0 ≡ sum_of (take (suc i) bases) = omega (arith, sum_more bases i h, so_far.part_is) in
-        is ∙ ap (λ (p : ℕ). rounded_share load p (sum_of bases)) parts
+        is ∙ ap₂ (rounded_share load) parts sum_is
 
     pub not_less : before ≤ after
     not_less = omega (arith, reached, so_far.before_is, rises load bases i h)
@@ -96,13 +96,13 @@ module _ (load : ℕ) (suppliers bases : List ℕ) where
           within load bases pos (suc i),
         )
 
-  pub filling_more : {amounts totals : List ℕ} {part before i : ℕ} (after : ℕ) → Filling amounts totals part before i → i < length bases →
-      get_or suppliers i 0 < 64 → after ≡ rounded_share load (part + get_or bases i 0) (sum_of bases) →
+  pub filling_more : {amounts totals : List ℕ} {part before i sum after : ℕ} → Filling amounts totals part before i → i < length bases →
+      get_or suppliers i 0 < 64 → sum ≡ sum_of bases → after ≡ rounded_share load (part + get_or bases i 0) sum →
       Filling (set amounts i (after - before)) (set totals (get_or suppliers i 0) (get_or totals (get_or suppliers i 0) 0 + (after - before)))
       (part + get_or bases i 0) after (i + 1)
-  filling_more {amounts} {totals} {part} {before} {i} after so_far h known is =
+  filling_more {amounts} {totals} {part} {before} {i} {sum} {after} so_far h known sum_is is =
       let parts : part + get_or bases i 0 ≡ sum_of (take (suc i) bases) = omega (arith, sum_more bases i h, so_far.part_is) in
-      let reaches = reached after so_far h is in
+      let reaches = reached so_far h sum_is is in
       let amount : after - before ≡ amount_of load bases i = ap₂ (λ (p q : ℕ). p - q) reaches so_far.before_is in
       record {
         part_is = parts ∙ ap (λ (j : ℕ). sum_of (take j bases)) (sym (add-one i));

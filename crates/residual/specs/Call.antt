@@ -5,8 +5,6 @@ use Rattle.std.specs.Prelude.{ℕ, ◌≡◌, Bool, not, ◌&&◌, ◌||◌, Lis
 use Rattle.common.specs.Below.{somewhere}
 use Rattle.common.specs.Lists.{sum_of}
 use Rattle.common.specs.Rows.{row, zeros}
-use Rattle.residual.specs.declared.SpreadAnswer.{SpreadAnswer}
-use Rattle.residual.specs.declared.SpreadAnswer.TheVariants.{Total, Unfit, BadList, TooMuch, NoBase}
 use Rattle.residual.specs.Spread.{Points, Outputs, outputs, spread_of, network_of}
 
 -- 3: "unequal list lengths or totals not 64 long"; the lists are suppliers, bases and amounts
@@ -52,21 +50,6 @@ ruling load p lent =
     (row (too_much load p.bases) (record { number = 17; total = 0; memory = zeroed lent })  -- a load above 2,000,000,000 or a base sum above 6,000,000,000
     (row (load_without_base load p.bases) (record { number = 18; total = 0; memory = zeroed lent })  -- a base sum of zero with a load
     (record { number = 0; total = network_of (spread_of load p); memory = spread_of load p }))))
-
--- the number and the total of each answer; 0 is done, a refused total is 0
-abbrev pub number : SpreadAnswer → ℕ
-number (Total n) = 0
-number Unfit = 3
-number BadList = 16
-number TooMuch = 17
-number NoBase = 18
-
-abbrev pub total : SpreadAnswer → ℕ
-total (Total n) = n
-total Unfit = 0
-total BadList = 0
-total TooMuch = 0
-total NoBase = 0
 
 pub record SpreadMet (load : ℕ) (before : Points) (lent : Outputs) (answered given : ℕ) (after : Points) (out : Outputs) : Type 0 where
   pub answers : answered ≡ (ruling load before lent).number

@@ -1,8 +1,15 @@
 -- What the private functions of crate residual ask of and promise each other (K5).
-use Rattle.std.specs.Prelude.{ℕ, suc, ◌≤◌, ◌<◌, ◌≡◌, cond, false, List, ltb, length, replicate}
+use Rattle.std.specs.Prelude.{ℕ, ◌≤◌, ◌<◌, ◌≡◌, false, List, length, replicate}
 use Rattle.common.specs.Lists.{sum_of}
-use Rattle.residual.specs.Spread.{Points, Outputs}
+use Rattle.common.specs.declared.refusal.Refusal.{Refusal}
+use Rattle.common.specs.declared.refusal.Refusal.TheVariants.{TooMuchLoad}
+use Rattle.residual.specs.declared.Points as declared
+use Rattle.residual.specs.Spread.{Points, points, Outputs}
 use Rattle.residual.specs.Call.{bad_list, load_most, base_most}
+
+-- the points that are lent to be read
+abbrev pub lent : declared.Points → Points
+lent p = points p.suppliers.now p.bases.now
 
 -- lengths that row 3 does not decline, and outputs that are zero
 pub record Cleared (p : Points) (o : Outputs) : Type 0 where
@@ -10,9 +17,15 @@ pub record Cleared (p : Points) (o : Outputs) : Type 0 where
   pub amounts_clear : o.amounts ≡ replicate (length p.bases) 0
   pub totals_clear : o.totals ≡ replicate 64 0
 
--- the base sum, or 6,000,000,001 where it is above 6,000,000,000
-abbrev pub limited_sum : List ℕ → ℕ
-limited_sum bases = cond (ltb base_most (sum_of bases)) (suc base_most) (sum_of bases)
+-- a base sum within the limit
+pub record Limited (bases : List ℕ) (sum : ℕ) : Type 0 where
+  pub sum_is : sum ≡ sum_of bases
+  pub sum_within : sum ≤ base_most
+
+-- the row of one that is above it
+pub record Unlimited (bases : List ℕ) (row : Refusal) : Type 0 where
+  pub row_is : row ≡ TooMuchLoad
+  pub above : base_most < sum_of bases
 
 -- numbers of which `rounded_share` can be formed
 pub record Shareable (load part sum : ℕ) : Type 0 where

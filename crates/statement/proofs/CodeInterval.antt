@@ -6,6 +6,7 @@ use Prim.Native.Nat.{ℕ, ◌+◌, ◌-◌, ◌*◌, ◌≤◌, ◌<◌, ◌^◌
 use native.Mathlib.Nat.{mul-le-mul_right}
 use native.Mathlib.Omega.{arith}
 use lib.ListN.{length, get_or}
+use Rattle.std.specs.List.{sum, slice_range}
 use Rattle.profile.specs.Limits.{span_most, weight_most}
 use Rattle.common.specs.Below.{last}
 use Rattle.account.specs.Account.{Account, days, shown}
@@ -16,13 +17,13 @@ use Rattle.statement.specs.declared.Progress.{Progress}
 use Rattle.statement.specs.Split.{weight_sum, rounded_share, between, has}
 use Rattle.statement.specs.Parts.{Outputs, marked}
 use Rattle.statement.specs.Shares.{Adjacent}
-use Rattle.statement.specs.Progress.{Interval, Written, Splittable, Summable, Addable, with_part, next_part}
+use Rattle.statement.specs.Progress.{Interval, Written, Splittable, Addable, with_part, next_part}
 use Rattle.statement.proofs.Order.{read, adjacent_rise}
 use Rattle.statement.specs.Facts.{Valid}
 use Rattle.statement.proofs.Parts.{Ends}
-use Rattle.statement.proofs.Sums.{sum_splits, sum_positive}
+use Rattle.statement.proofs.Sums.{sum_empty, sum_splits, sum_positive}
 use Rattle.statement.proofs.Has.{has_reading, has_between, has_mono}
-use Rattle.statement.proofs.CodeSums.{sum_next, sum_most}
+use Rattle.statement.proofs.CodeSums.{sum_next, sum_range, sum_most}
 use Rattle.statement.proofs.CodeSound.{checked_fit, checked_sound, checked_valid, mark_counts, energy_between}
 use Rattle.statement.proofs.CodeWritten.{written_same, written_none, written_part, written_addable}
 
@@ -66,24 +67,24 @@ pub starts_at : (a : Account) (q : ℕ) (o : Outputs) (d : Progress) → Interva
 starts_at a q o d h =
     h.so_far.count ∙ ap (has a.weights (shown a).readings) (sym h.so_far.start) ∙ has_reading a.weights (shown a).readings d.start h.adjacent.at_p
 
-pub interval_summable : (a : Account) (q : ℕ) (o : Outputs) (d : Progress) → Interval a q o d → (k m : ℕ) → k ≤ m → m ≤ q → Summable a.weights k m
-interval_summable a q o d h k m low high =
-    record { ordered = low; within = omega arith; span = (checked_fit a h.checked).most; good = (checked_sound a h.checked).weights }
+pub interval_rises : (a : Account) (q : ℕ) (o : Outputs) (d : Progress) → Interval a q o d → d.count ≤ get_or a.counts q 0
+interval_rises a q o d h = omega (arith, (room a d.start q h.checked h.adjacent h.within).rises, starts_at a q o d h)
 
-pub interval_start : (a : Account) (q : ℕ) (o : Outputs) (d : Progress) (z zk : ℕ) → Interval a q o d → z ≡ weight_sum a.weights d.start q →
-    zk ≡ weight_sum a.weights d.start (d.start + 1) →
+-- what the loop starts from: the sum of the days p to q-1, and the weight of day p
+pub interval_start : (a : Account) (q : ℕ) (o : Outputs) (d : Progress) (z zk : ℕ) → Interval a q o d → z ≡ sum (slice_range a.weights d.start q) →
+    zk ≡ get_or a.weights d.start 0 →
     Within a d.start q d.count (get_or a.counts q 0 - d.count) z (d.start + 1) zk o d
-interval_start a q o d z zk h sum first =
+interval_start a q o d z zk h z_is first =
     record {
       checked = h.checked;
       inside = h.within;
       adjacent = h.adjacent;
       starts = starts_at a q o d h;
       energy = refl;
-      sum = sum;
+      sum = z_is ∙ sum_range a.weights d.start q (omega (arith, h.adjacent.ordered)) h.within;
       after = omega arith;
       upto = omega (arith, h.adjacent.ordered);
-      share = first;
+      share = first ∙ omega (arith, sum_empty a.weights d.start d.start (omega arith), sum_next a.weights d.start d.start (omega arith));
       written = h.so_far;
     }
 

@@ -15,12 +15,9 @@ use borrow.Author.Tests.{ltb-true, leb-true, lt-ltb, le-leb, lt-leb}
 use Rattle.account.specs.Stands.{Stands, first_reading, last_reading}
 use Rattle.common.proofs.Below.{clash, refuted}
 use Rattle.common.specs.Rows.{filled}
+use Rattle.std.proofs.lemmas.Bool.{true_from_ne_false}
 use Rattle.statement.specs.Parts.{Part, marked, ends_part, part_to, parts_below, parts_of, written, statement_of}
 use Rattle.statement.specs.Shares.{energy}
-
-needed : (b : Bool) → (b ≡ false → ⊥) → b ≡ true
-needed true h = refl
-needed false h = absurd (h refl)
 
 at_most_one : (b : Bool) (x : Part) → length (cond b (x ∷ []) []) ≤ 1
 at_most_one true x = omega arith
@@ -35,9 +32,9 @@ module _ (w : List ℕ) (s : Stands) where
 
   ends_is : (k : ℕ) → ends_part w s k ≡ true → Ends k
   ends_is k h =
-      let asked : (b : Bool) → (b ≡ false → ends_part w s k ≡ false) → b ≡ true = λ b none. needed b (λ e. clash h (none e)) in
+      let asked : (b : Bool) → (b ≡ false → ends_part w s k ≡ false) → b ≡ true = λ b none. true_from_ne_false b (λ e. clash h (none e)) in
       record {
-        mark = asked (marked s k) (λ e. simp (e, and-false));
+        mark = asked (marked s k) (λ e. simp e);
         after = ltb-true _ k (asked (ltb (first_reading (length w) s.readings) k) (λ e. simp (e, and-false)));
         upto = leb-true k _ (asked (leb k (last_reading (length w) s.readings)) (λ e. simp (e, and-false)));
       }

@@ -4,22 +4,7 @@ use Rattle.common.specs.Below.{how_many}
 use Rattle.account.specs.Stands.{Readings, Stands}
 use Rattle.account.specs.Account.{Account, days, shown, unfit, sound}
 use Rattle.common.specs.Rows.{row, zeros}
-use Rattle.statement.specs.declared.StatementAnswer.{StatementAnswer}
-use Rattle.statement.specs.declared.StatementAnswer.TheVariants.{Parts, Unfit, Unsound, TooFewReadings}
 use Rattle.statement.specs.Parts.{Outputs, outputs, parts_of, statement_of}
-
--- the paper's number and the number of parts for each answer; 0 is done, and a refused number of parts is 0
-abbrev pub number : StatementAnswer → ℕ
-number (Parts n) = 0
-number Unfit = 3
-number Unsound = 5
-number TooFewReadings = 11
-
-abbrev pub part_count : StatementAnswer → ℕ
-part_count (Parts n) = n
-part_count Unfit = 0
-part_count Unsound = 0
-part_count TooFewReadings = 0
 
 -- 3: an output is not n long
 abbrev pub unfit_outputs : ℕ → Outputs → Bool

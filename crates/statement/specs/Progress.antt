@@ -3,25 +3,23 @@ use Rattle.std.specs.Prelude.{ℕ, suc, ◌+◌, ◌-◌, ◌*◌, ◌^◌, ◌�
 use Rattle.profile.specs.Limits.{span_most, weight_most}
 use Rattle.common.specs.Below.{how_many, last}
 use Rattle.account.specs.Stands.{Stands}
-use Rattle.account.specs.Account.{Account, days, shown, marks_reading, good_weights, energy_most}
+use Rattle.account.specs.Account.{Account, days, shown, marks_reading, energy_most}
 use Rattle.account.specs.Slices.{Checked}
 use Rattle.statement.specs.declared.Progress.{Progress}
 use Rattle.statement.specs.Split.{has}
 use Rattle.statement.specs.Parts.{Outputs, outputs, marked, parts_below, parts_of, written}
 use Rattle.statement.specs.Shares.{Adjacent}
 
--- r is the first reading at or after boundary k, and past the last boundary where there is none
+-- r is the first reading at or after boundary k
 pub record NextReading (marks : List ℕ) (k r : ℕ) : Type 0 where
   pub after : k ≤ r
   pub none_before : (j : ℕ) → k ≤ j → j < r → marks_reading (get_or marks j 0) ≡ false
-  pub there : r < length marks → marks_reading (get_or marks r 0) ≡ true
+  pub within : r < length marks
+  pub there : marks_reading (get_or marks r 0) ≡ true
 
--- weights that can be summed from day p to day q-1
-pub record Summable (w : List ℕ) (p q : ℕ) : Type 0 where
-  pub ordered : p ≤ q
-  pub within : q ≤ length w
-  pub span : length w ≤ span_most
-  pub good : good_weights w ≡ true
+-- there is none
+pub record NoReading (marks : List ℕ) (k : ℕ) : Type 0 where
+  pub none : (j : ℕ) → k ≤ j → j < length marks → marks_reading (get_or marks j 0) ≡ false
 
 -- numbers of which low + nearest(e × zk / z) can be formed
 pub record Splittable (low e zk z : ℕ) : Type 0 where

@@ -3,24 +3,19 @@
 
 mod readings;
 
-ghost use Rattle.std.specs.Prelude.{◌≡◌, ◌+◌};
+ghost use Rattle.std.specs.Prelude.{◌≡◌, ◌+◌, ◌≤◌, length, sum};
+ghost use Rattle.common.specs.Refusals.{number, value};
+ghost use Rattle.profile.specs.Limits.{span_most};
 ghost use Rattle.account.specs.Account.{account, shown};
-ghost use Rattle.statement.specs.Split.{weight_sum, rounded_share};
+ghost use Rattle.account.specs.Slices.{lent};
+ghost use Rattle.statement.specs.Split.{rounded_share};
 ghost use Rattle.statement.specs.Parts.{outputs};
-ghost use Rattle.statement.specs.Call.{number, part_count, StatementMet};
-ghost use Rattle.statement.specs.Progress.{Summable, Splittable, Addable, with_part, next_part, Interval, Written, Fillable, Filled};
+ghost use Rattle.statement.specs.Call.{StatementMet};
+ghost use Rattle.statement.specs.Progress.{Splittable, Addable, with_part, next_part, Interval, Written, Fillable, Filled};
 
-use common::{clear_u16, clear_u64};
+use account::Account;
+use common::{Refusal, clear};
 use readings::{count_readings, next_reading};
-
-// What a statement answers: the number of its parts, or a row of the table.
-#[derive(Clone, Copy)]
-pub enum StatementAnswer {
-    Parts(usize),
-    Unfit,
-    Unsound,
-    TooFewReadings,
-}
 
 // How far a statement is written: so many `parts` are, and the next starts at the boundary `start`, which has `count`.
 #[derive(Clone, Copy)]
@@ -31,6 +26,7 @@ struct Progress {
 }
 
 // Writes the statement of an account into `from`, `to` and `wh`, and returns the number of its parts.
+// Kept: six slices, since the paper and C lend them so; what is written is no view, whose contracts would name each borrow.
 pub fn statement(
     weights: &[u32],
     marks: &[u8],
@@ -38,51 +34,39 @@ pub fn statement(
     from: &mut [u16],
     to: &mut [u16],
     wh: &mut [u64],
-) -> StatementAnswer
-    ensures { StatementMet (account weights.now marks.now counts.now) (outputs from.old to.old wh.old) (number result) (part_count result) (account weights.now marks.now counts.now) (outputs from.new to.new wh.new) }
+) -> Result<usize, Refusal>
+    ensures { StatementMet (account weights.now marks.now counts.now) (outputs from.old to.old wh.old) (number result) (value result) (account weights.now marks.now counts.now) (outputs from.new to.new wh.new) }
 {
     let n = weights.len();
-    if from.len() != n {
-        return StatementAnswer::Unfit;
+    if from.len() != n || to.len() != n || wh.len() != n {
+        return Err(Refusal::Unfit);
     }
-    if to.len() != n {
-        return StatementAnswer::Unfit;
-    }
-    if wh.len() != n {
-        return StatementAnswer::Unfit;
-    }
-    let refused = account::check(weights, marks, counts);
-    if refused == 3 {
-        return StatementAnswer::Unfit;
-    }
-    if refused != 0 {
-        return StatementAnswer::Unsound;
-    }
-    clear_u16(from);
-    clear_u16(to);
-    clear_u64(wh);
+    let account = Account {
+        weights,
+        marks,
+        counts,
+    };
+    account.check()?;
+    clear(from);
+    clear(to);
+    clear(wh);
     if count_readings(marks) < 2 {
-        return StatementAnswer::TooFewReadings;
+        return Err(Refusal::TooFewReadings);
     }
-    let parts = fill(weights, marks, counts, from, to, wh);
-    StatementAnswer::Parts(parts)
+    Ok(fill(account, from, to, wh))
 }
 
-// The weights from day p to day q-1.
-fn weight_sum(weights: &[u32], p: usize, q: usize) -> u64
-    requires { Summable weights.now p q }
-    ensures { result ≡ weight_sum weights.now p q }
+// The sum of the weights of some days.
+// Kept: customer has it too; both ask for few enough days that the sum fits, and a public function may ask nothing.
+fn weight_sum(weights: &[u32]) -> u64
+    requires { length weights.now ≤ span_most }
+    ensures { result ≡ sum weights.now }
 {
-    let mut sum: u64 = 0;
-    let mut i = p;
-    while i < q {
-        sum += weights[i] as u64;
-        i += 1;
-    }
-    sum
+    weights.iter().map(|weight| u64::from(*weight)).sum()
 }
 
 // A cut's share of the energy e between two readings, to the nearest Wh: one addition and one division, and no remainder is tested (K3).
+// Kept: residual has it too; like this one it asks its caller for numbers that fit, and a public function may ask nothing.
 fn rounded_share(e: u64, zk: u64, z: u64) -> u64
     requires { Splittable 0 e zk z }
     ensures { result ≡ rounded_share e zk z }
@@ -116,67 +100,59 @@ fn add_part(
     wh[at] = count - done.count;
     Progress {
         start: end,
-        count: count,
+        count,
         parts: at + 1,
     }
 }
 
 // Writes the parts from the reading at which the next part starts to the next reading q.
 fn fill_interval(
-    weights: &[u32],
-    marks: &[u8],
-    counts: &[u64],
+    account: Account<'_>,
     q: usize,
     from: &mut [u16],
     to: &mut [u16],
     wh: &mut [u64],
     done: Progress,
 ) -> Progress
-    requires { Interval (account weights.now marks.now counts.now) q (outputs from.old to.old wh.old) done }
-    ensures { Written weights.now (shown (account weights.now marks.now counts.now)) (q + 1) (outputs from.new to.new wh.new) result }
+    requires { Interval (lent account) q (outputs from.old to.old wh.old) done }
+    ensures { Written (lent account.entry).weights (shown (lent account.entry)) (q + 1) (outputs from.new to.new wh.new) result }
 {
+    let Account {
+        weights,
+        marks,
+        counts,
+    } = account;
     let p = done.start;
     let low = done.count;
     let high = counts[q];
     let e = high - low;
-    let z = weight_sum(weights, p, q);
-    let mut k = p + 1;
-    let mut zk = weight_sum(weights, p, k);
+    let z = weight_sum(&weights[p..q]);
+    let mut zk = u64::from(weights[p]);
     let mut reached = done;
-    while k < q {
+    for k in p + 1..q {
         if marks[k] != 0 {
             let count = cut_count(low, e, zk, z);
             reached = add_part(from, to, wh, reached, k, count);
         }
-        zk += weights[k] as u64;
-        k += 1;
+        zk += u64::from(weights[k]);
     }
     add_part(from, to, wh, reached, q, high)
 }
 
 // Writes every part, from the first reading to the last; their number.
-fn fill(
-    weights: &[u32],
-    marks: &[u8],
-    counts: &[u64],
-    from: &mut [u16],
-    to: &mut [u16],
-    wh: &mut [u64],
-) -> usize
-    requires { Fillable (account weights.now marks.now counts.now) (outputs from.old to.old wh.old) }
-    ensures { Filled (account weights.now marks.now counts.now) (outputs from.new to.new wh.new) result }
+fn fill(account: Account<'_>, from: &mut [u16], to: &mut [u16], wh: &mut [u64]) -> usize
+    requires { Fillable (lent account) (outputs from.old to.old wh.old) }
+    ensures { Filled (lent account.entry) (outputs from.new to.new wh.new) result }
 {
-    let n = weights.len();
-    let first = next_reading(marks, 0);
+    let first = next_reading(account.marks, 0).unwrap();
     let mut done = Progress {
         start: first,
-        count: counts[first],
+        count: account.counts[first],
         parts: 0,
     };
-    let mut q = next_reading(marks, first + 1);
-    while q <= n {
-        done = fill_interval(weights, marks, counts, q, from, to, wh, done);
-        q = next_reading(marks, q + 1);
+    // Kept: no index is counted, but readings are taken until none is next.
+    while let Some(q) = next_reading(account.marks, done.start + 1) {
+        done = fill_interval(account, q, from, to, wh, done);
     }
     done.parts
 }

@@ -1,6 +1,6 @@
 -- The laws that the proofs of crate weights share, and its theorems (Temperature of a day, K1).
 pub mod Half
-pub mod Raised
+pub mod Range
 pub mod Series
 pub mod Calendar
 pub mod Span

@@ -1,12 +1,11 @@
 -- The allocation temperature (Temperature of a day): "With today's mean a and those of one, two and three days before b, c, d, the allocation temperature is
 -- nearest((8a+4b+2c+d)/15). No half can occur." The table: the index of 4 is "0 to 3 for four means in the order a, b, c, d", "single values refused are zero".
-use Rattle.std.specs.Prelude.{◌≡◌, true, List, [], ◌∷◌, ℕ, ℤ, pos, ◌+ℤ◌, ◌*ℤ◌}
+use Rattle.std.specs.Prelude.{◌≡◌, true, List, [], ◌∷◌, ℕ, Result, Ok, Err, ℤ, pos, ◌+ℤ◌, ◌*ℤ◌}
 use Rattle.rounding.specs.Integers.{nearest_ℤ}
 use Rattle.profile.specs.Limits.{in_range}
 use Rattle.common.specs.Rows.{row, if_done}
+use Rattle.common.specs.declared.refusal.Fault.{Fault}
 use Rattle.weights.specs.Means.{first_out, some_out}
-use Rattle.weights.specs.declared.TemperatureAnswer.{TemperatureAnswer}
-use Rattle.weights.specs.declared.TemperatureAnswer.TheVariants.{Temperature, OutOfRange}
 
 abbrev pub weighted : ℤ → ℤ → ℤ → ℤ → ℤ
 weighted a b c d = pos 8 *ℤ a +ℤ pos 4 *ℤ b +ℤ pos 2 *ℤ c +ℤ d
@@ -23,23 +22,15 @@ temperature_of a b c d = nearest_ℤ (weighted a b c d) divisor
 abbrev pub NoHalf : Type 0
 NoHalf = (x q : ℤ) → pos 2 *ℤ x ≡ (pos 2 *ℤ q +ℤ pos 1) *ℤ pos divisor → ⊥
 
--- the temperature of means in range is in range, so that every day of a span has a weight (proofs/Raised, `temperature_in_range`)
+-- the temperature of means in range is in range, so that every day of a span has a weight (proofs/Range, `temperature_in_range`)
 abbrev pub TemperatureInRange : Type 0
 TemperatureInRange =
     (a b c d : ℤ) → in_range a ≡ true → in_range b ≡ true → in_range c ≡ true → in_range d ≡ true → in_range (temperature_of a b c d) ≡ true
 
--- an answer's number in the table (0: done), its index, and its temperature
-abbrev pub number : TemperatureAnswer → ℕ
-number (Temperature t) = 0
-number (OutOfRange k) = 4
-
-abbrev pub place : TemperatureAnswer → ℕ
-place (Temperature t) = 0
-place (OutOfRange k) = k
-
-abbrev pub value : TemperatureAnswer → ℤ
-value (Temperature t) = t
-value (OutOfRange k) = pos 0
+-- the temperature that a call gives; 0 where a row declines it
+abbrev pub value : Result ℤ Fault → ℤ
+value (Ok t) = t
+value (Err f) = pos 0
 
 abbrev pub four : ℤ → ℤ → ℤ → ℤ → List ℤ
 four a b c d = a ∷ b ∷ c ∷ d ∷ []

@@ -9,8 +9,6 @@ use Rattle.common.specs.Lists.{list_of}
 use Rattle.weights.specs.Means.{first_out, some_out}
 use Rattle.weights.specs.Temperature.{temperature_of}
 use Rattle.weights.specs.Calendar.{counts_as, some_no_day, first_no_day}
-use Rattle.weights.specs.declared.WeightsAnswer.{WeightsAnswer}
-use Rattle.weights.specs.declared.WeightsAnswer.TheVariants.{Done, Unfit, NoProfile, NoWeekday, OutOfRange, NoDay}
 
 abbrev pub mean_at : List ℤ → ℕ → ℤ
 mean_at means i = get_or means i (pos 0)
@@ -28,9 +26,11 @@ unfoldable pub weights_of : (profile weekday : ℕ) (means : List ℤ) (calendar
 weights_of profile weekday means calendar = list_of (day_weight profile weekday means calendar) (length means - 3)
 
 -- n is outside 1 to 1,096, or the output or the calendar is not n long
+abbrev pub unfit_lengths : (means calendar out : ℕ) → Bool
+unfit_lengths means calendar out = bad_span (means - 3) || not (eqb out (means - 3)) || not (eqb calendar (means - 3))
+
 abbrev pub unfit : (means : List ℤ) (calendar out : List ℕ) → Bool
-unfit means calendar out =
-    bad_span (length means - 3) || not (eqb (length out) (length means - 3)) || not (eqb (length calendar) (length means - 3))
+unfit means calendar out = unfit_lengths (length means) (length calendar) (length out)
 
 -- what the table lays down for a call: the number, the index, and what the output then holds
 pub record Ruling : Type 0 where
@@ -46,23 +46,6 @@ ruling profile weekday means calendar before =
     (row (some_out means) (record { number = 4; place = first_out means; memory = zeros before })  -- first mean out of range
     (row (some_no_day calendar) (record { number = 14; place = first_no_day calendar; memory = zeros before })  -- first byte above 7
     (record { number = 0; place = 0; memory = weights_of profile weekday means calendar })))))
-
--- an answer's number in the table (0: done), and its index
-abbrev pub number : WeightsAnswer → ℕ
-number Done = 0
-number Unfit = 3
-number NoProfile = 1
-number NoWeekday = 2
-number (OutOfRange k) = 4
-number (NoDay k) = 14
-
-abbrev pub place : WeightsAnswer → ℕ
-place Done = 0
-place Unfit = 0
-place NoProfile = 0
-place NoWeekday = 0
-place (OutOfRange k) = k
-place (NoDay k) = k
 
 -- weights that an account takes: as many as a span has days, "every weight that the table can give is 1 to 6,999,999"
 pub record Bounded (weights : List ℕ) : Type 0 where
@@ -85,7 +68,15 @@ OwnDays =
     WeightsMet profile weekday means (replicate (length means - 3) 7) before 0 placed after means_after calendar_after →
     (k : ℕ) → k < length means - 3 → get_or after k 0 ≡ weight_of profile ((weekday + k) % 7) (day_temperature means k)
 
--- ---- what the private functions ask: no condition of rows 1, 2 and 4 holds
+-- ---- what the private functions answer: row 3 by the lengths alone, and what the rows below it say of every output that is fit
+pub record LengthsMet (means calendar out answered : ℕ) : Type 0 where
+  pub answers : answered ≡ row (unfit_lengths means calendar out) 3 0
+
+pub record RowsMet (profile weekday : ℕ) (means : List ℤ) (calendar : List ℕ) (answered placed : ℕ) : Type 0 where
+  pub answers : (out : List ℕ) → unfit means calendar out ≡ false → answered ≡ (ruling profile weekday means calendar out).number
+  pub places : (out : List ℕ) → unfit means calendar out ≡ false → placed ≡ (ruling profile weekday means calendar out).place
+
+-- and what they ask: no condition of rows 1, 2 and 4 holds
 pub record Ready (profile weekday : ℕ) (means : List ℤ) : Type 0 where
   pub profile_known : profile < profile_count
   pub weekday_known : weekday < 7

@@ -1,25 +1,24 @@
 // The days of a span (Temperature of a day, K1): one temperature, one power and one weight each, in one pass.
-ghost use Rattle.std.specs.Prelude.{◌≡◌, true, false, ◌+◌, ◌<◌, length};
+ghost use Rattle.std.specs.Prelude.{◌≡◌, true, false, MatchResult, ◌+◌, ◌<◌, length};
 ghost use Rattle.profile.specs.Limits.{in_range, profile_count};
 ghost use Rattle.profile.specs.Weight.{weight_of};
 ghost use Rattle.weights.specs.Means.{some_out};
-ghost use Rattle.weights.specs.Calendar.{counts_as, first_no_day};
+ghost use Rattle.weights.specs.Calendar.{counts_as, some_no_day, first_no_day};
 ghost use Rattle.weights.specs.Weights.{day_temperature, weights_of, Ready};
 
-use profile::WeightAnswer;
+use common::{Fault, Refusal};
 
-// The index of the first byte above 7, or the number of bytes.
-pub(crate) fn first_no_day(calendar: &[u8]) -> usize
-    ensures { result ≡ first_no_day calendar.now }
+// Row 14: refuses the first byte above 7, with its index.
+pub(crate) fn check(calendar: &[u8]) -> Result<(), Fault>
+    ensures { MatchResult result (λ _. some_no_day calendar.now ≡ false) (λ fault. (some_no_day calendar.now ≡ true) × (fault ≡ record { refusal = Refusal.NoDay; place = first_no_day calendar.now })) }
 {
-    let mut k = 0;
-    while k < calendar.len() {
-        if 7 < calendar[k] {
-            return k;
-        }
-        k += 1;
+    match calendar.iter().position(|byte| 7 < *byte) {
+        Some(place) => Err(Fault {
+            refusal: Refusal::NoDay,
+            place,
+        }),
+        None => Ok(()),
     }
-    k
 }
 
 // Writes the weight of each day; the weekday is that of day 0.
@@ -27,16 +26,14 @@ pub(crate) fn fill(profile: u8, weekday: u8, means: &[i16], calendar: &[u8], out
     requires { Ready profile weekday means.now × (length out.old + 3 ≡ length means.now) × (length calendar.now ≡ length out.old) }
     ensures { out.new ≡ weights_of profile weekday means.now calendar.now }
 {
-    let mut k = 0;
-    while k < out.len() {
-        let t = temperature_of(means, k);
+    for (k, weight) in out.iter_mut().enumerate() {
         let day = counts_as(weekday, calendar, k);
-        out[k] = weight_at(profile, day, t);
-        k += 1;
+        *weight = weight_at(profile, day, temperature_of(means, k));
     }
 }
 
 // Day k's temperature: its own mean is at index k + 3.
+#[tactic(auto, using(crate::proofs::Range::kept, crate::proofs::Range::temperature_in_range, crate::proofs::Series::all_in, crate::proofs::Series::read_in))]
 fn temperature_of(means: &[i16], k: usize) -> i16
     requires { (some_out means.now ≡ false) × (k + 3 < length means.now) }
     ensures { (result ≡ day_temperature means.now k) × (in_range result ≡ true) }
@@ -45,6 +42,7 @@ fn temperature_of(means: &[i16], k: usize) -> i16
 }
 
 // The weekday that day k counts as: the one that its byte names, or its own.
+#[tactic(auto, using(crate::proofs::Calendar::named_day, crate::proofs::Calendar::own_day))]
 fn counts_as(weekday: u8, calendar: &[u8], k: usize) -> u8
     requires { (weekday < 7) × (k < length calendar.now) }
     ensures { result ≡ counts_as weekday calendar.now k }
@@ -53,18 +51,12 @@ fn counts_as(weekday: u8, calendar: &[u8], k: usize) -> u8
     if byte < 7 {
         return byte;
     }
-    ((weekday as usize + k) % 7) as u8
+    ((usize::from(weekday) + k) % 7) as u8
 }
 
 fn weight_at(profile: u8, weekday: u8, t: i16) -> u32
     requires { (profile < profile_count) × (weekday < 7) × (in_range t ≡ true) }
     ensures { result ≡ weight_of profile weekday t }
 {
-    let answer = profile::day_weight(profile, weekday, t);
-    match answer {
-        WeightAnswer::Weight(w) => w,
-        WeightAnswer::NoProfile => 0,
-        WeightAnswer::NoWeekday => 0,
-        WeightAnswer::OutOfRange(_) => 0,
-    }
+    profile::day_weight(profile, weekday, t).unwrap()
 }

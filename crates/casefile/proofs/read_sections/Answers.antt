@@ -1,23 +1,21 @@
--- `casefile::read_sections` meets its contract (Case file): the sections and the end of the file, then the weights, into cleared slices. Assumes nothing.
-use mathlib.Core.Path.{refl}
-use native.Mathlib.Omega.{arith}
-use Rattle.casefile.proofs.Chained.{file_fault, span_is, weighable, file_filled}
+-- `casefile::read_sections` meets its contract (Case file): the weights of a file without a fault. Assumes nothing.
+use Rattle.casefile.proofs.Chained.{weighable, file_filled}
 use Rattle.casefile.proofs.read_sections.Goals as goal
 
-pub fill-requires : goal.fill-requires
-fill-requires c = (refl, c.requires.marks, c.requires.counts)
-
-pub returns-then-end-ne0 : goal.returns-then-end-ne0
-returns-then-end-ne0 c = file_fault c.requires c.fill.ensures c.ended-end.ensures c.if-end-ne0.true
-
-pub bounds-file-0 : goal.bounds-file-0
-bounds-file-0 c = omega (arith, (span_is c.requires c.fill.ensures c.ended-end.ensures c.if-end-ne0.false).first.long)
-
-pub bounds-file-1 : goal.bounds-file-1
-bounds-file-1 c = omega (arith, (span_is c.requires c.fill.ensures c.ended-end.ensures c.if-end-ne0.false).first.long)
-
 pub weigh-requires : goal.weigh-requires
-weigh-requires c = weighable c.requires c.fill.ensures c.ended-end.ensures c.if-end-ne0.false c.fill.auto.means
+weigh-requires c =
+    let f = c.in_ok-profile.ensures.reached in
+    let m = rw c.first_bytes.ensures.same at c.in_ok-days.ensures.reached in
+    let r = rw (c.means.ensures.same, c.first_bytes.ensures.same) at c.in_ok-readings.ensures.reached in
+    let k = rw (c.readings.ensures.same, c.means.ensures.same, c.first_bytes.ensures.same) at c.in_ok-cuts.ensures.reached in
+    let e = rw (c.cuts.ensures.same, c.readings.ensures.same, c.means.ensures.same, c.first_bytes.ensures.same) at c.in_ok-ended.ensures in
+    rw (f.gives.0, f.gives.1) (weighable _ f m r k c.requires e.clean c.means.auto.means)
 
 pub returns : goal.returns
-returns c = file_filled c.requires c.fill.ensures c.ended-end.ensures c.if-end-ne0.false c.weigh.ensures
+returns c =
+    let f = c.in_ok-profile.ensures.reached in
+    let m = rw c.first_bytes.ensures.same at c.in_ok-days.ensures.reached in
+    let r = rw (c.means.ensures.same, c.first_bytes.ensures.same) at c.in_ok-readings.ensures.reached in
+    let k = rw (c.readings.ensures.same, c.means.ensures.same, c.first_bytes.ensures.same) at c.in_ok-cuts.ensures.reached in
+    let e = rw (c.cuts.ensures.same, c.readings.ensures.same, c.means.ensures.same, c.first_bytes.ensures.same) at c.in_ok-ended.ensures in
+    file_filled _ f m r k c.requires e.clean c.means.auto.means (rw (f.gives.0, f.gives.1) at c.weigh.ensures)

@@ -3,7 +3,7 @@ use Prim.Native.Nat.{ℕ}
 use mathlib.Core.Path.{refl}
 use mathlib.Core.List.{List}
 use native.Mathlib.Omega.{arith}
-use lib.ListN.{length, replicate, length-take}
+use lib.ListN.{length, replicate}
 use Rattle.profile.specs.Limits.{span_most}
 use Rattle.account.specs.Account.{account}
 use Rattle.page.proofs.Table.{ruled, too_long, cut_fits}
@@ -14,15 +14,6 @@ returns-then-n-gt-SPAN_MOST c =
     let a = c.args in
     let b = account a.weights.now a.marks.now a.counts.now in
     ruled b a.page.now _ (too_long b a.page.now c.if-n-gt-SPAN_MOST.true) refl
-
-pub slice_bounds-with_outputs-end : goal.slice_bounds-with_outputs-end
-slice_bounds-with_outputs-end c = simp length-take (omega arith)
-
-pub slice_bounds-with_outputs-end-2 : goal.slice_bounds-with_outputs-end-2
-slice_bounds-with_outputs-end-2 c = simp length-take (omega arith)
-
-pub slice_bounds-with_outputs-end-3 : goal.slice_bounds-with_outputs-end-3
-slice_bounds-with_outputs-end-3 c = simp length-take (omega arith)
 
 pub with_outputs-requires : goal.with_outputs-requires
 with_outputs-requires c =

@@ -1,2 +1,0 @@
--- What the proof of the chooser uses (Temperature of a day).
-mod Series
