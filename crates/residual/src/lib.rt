@@ -107,6 +107,7 @@ impl<'a> Points<'a> {
     {
         let mut part: u64 = 0;
         let mut before: u64 = 0;
+        // Kept: the points are read by their index. After a `zip` with `iter_mut` nothing is known of the amounts written.
         for (i, amount) in amounts.iter_mut().enumerate() {
             part += self.bases[i];
             let after = rounded_share(load, part, sum);
