@@ -3,6 +3,7 @@ use Rattle.std.specs.Prelude.{ℕ, suc, ◌+◌, Bool, true, false, not, ◌&&�
 use Rattle.profile.specs.Limits.{weight_least, weight_most, bad_span}
 use Rattle.common.specs.Below.{everywhere}
 use Rattle.account.specs.Stands.{Readings, Stands, never_falling, last_less_first}
+use Rattle.account.specs.declared.Account as declared
 
 -- weights (n), marks and counts (n+1): a boundary is the start of a gas day, n the end of the last one, a reading's count the meter's register in Wh, a cut a date at which
 -- the energy between two readings is divided
@@ -14,6 +15,10 @@ pub record Account : Type 0 where
 -- what three lent slices hold, at the start (`old`, or `now` where they are only read) or the end (`new`) of a call
 abbrev pub account : List ℕ → List ℕ → List ℕ → Account
 account w m c = record { weights = w; marks = m; counts = c }
+
+-- what an account holds that is lent to be read
+abbrev pub lent : declared.Account → Account
+lent a = account a.weights.now a.marks.now a.counts.now
 
 -- n
 abbrev pub days : Account → ℕ

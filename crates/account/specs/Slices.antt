@@ -2,15 +2,10 @@
 use Rattle.std.specs.Prelude.{ℕ, suc, ◌+◌, ◌≤◌, ◌≡◌, Bool, true, false, ◌&&◌, List, ltb, length, get_or}
 use Rattle.profile.specs.Limits.{span_least, span_most}
 use Rattle.account.specs.Stands.{never_falling}
-use Rattle.account.specs.declared.Account as declared
-use Rattle.account.specs.Account.{Account, account, days, shown, unfit, marks_reading, good_marks, zero_counts}
+use Rattle.account.specs.Account.{Account, days, shown, unfit, marks_reading, good_marks, zero_counts}
 use Rattle.account.specs.Account as accounts
 use Rattle.common.specs.Rows.{row}
 use Rattle.account.specs.Refusals.{account_rows}
-
--- what an account holds that is lent to be read
-abbrev pub lent : declared.Account → Account
-lent a = account a.weights.now a.marks.now a.counts.now
 
 -- whether these marks show a reading at k
 abbrev pub reads_at : List ℕ → ℕ → Bool

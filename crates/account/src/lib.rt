@@ -8,9 +8,8 @@ mod table;
 
 ghost use Rattle.std.specs.Prelude.{◌≡◌};
 ghost use Rattle.common.specs.Refusals.{number};
-ghost use Rattle.account.specs.Account.{account, marks_reading, marks_cut, energy_most};
+ghost use Rattle.account.specs.Account.{account, lent, marks_reading, marks_cut, energy_most};
 ghost use Rattle.account.specs.Calls.{OpenMet, ReadingMet, WithdrawMet, CutMet, UncutMet, CheckMet, GoodWeightsMet};
-ghost use Rattle.account.specs.Slices.{lent};
 
 use common::{Refusal, clear};
 use profile::Profile;

@@ -2,8 +2,8 @@
 ghost use Rattle.std.specs.Prelude.{◌≡◌, length};
 ghost use Rattle.common.specs.Below as boundaries;
 ghost use Rattle.account.specs.Stands.{last_less_first};
-ghost use Rattle.account.specs.Account.{days, shown};
-ghost use Rattle.account.specs.Slices.{lent, Fit, reads_at, count_at};
+ghost use Rattle.account.specs.Account.{lent, days, shown};
+ghost use Rattle.account.specs.Slices.{Fit, reads_at, count_at};
 
 use crate::{Account, is_reading};
 

@@ -1,7 +1,7 @@
 // When an account fits and when its marks and counts are sound (Account and its calls).
 ghost use Rattle.std.specs.Prelude.{◌≡◌};
-ghost use Rattle.account.specs.Account.{unfit};
-ghost use Rattle.account.specs.Slices.{lent, Fit, good_boundaries};
+ghost use Rattle.account.specs.Account.{lent, unfit};
+ghost use Rattle.account.specs.Slices.{Fit, good_boundaries};
 
 use crate::{Account, is_reading};
 use profile::Profile;

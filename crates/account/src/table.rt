@@ -2,9 +2,9 @@
 ghost use Rattle.std.specs.Prelude.{◌<◌, ◌≤◌, ◌≡◌, ◌&&◌, ◌||◌, ltb, length, get_or, IfOk};
 ghost use Rattle.common.specs.Refusals.{number};
 ghost use Rattle.account.specs.Stands.{put, with_reading, last_less_first};
-ghost use Rattle.account.specs.Account.{days, shown, marks_reading};
+ghost use Rattle.account.specs.Account.{lent, days, shown, marks_reading};
 ghost use Rattle.account.specs.Refusals.{out_of_order};
-ghost use Rattle.account.specs.Slices.{lent, Fit, boundary_rows, count_at};
+ghost use Rattle.account.specs.Slices.{Fit, boundary_rows, count_at};
 
 use crate::{Account, is_reading};
 use common::Refusal;

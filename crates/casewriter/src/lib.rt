@@ -53,7 +53,7 @@ fn check_account(means: usize, marks: &[u8], counts: &[u64]) -> Result<(), Refus
     ensures { rows.number result ≡ account_rows (account (replicate (means - 3) 1) marks.now counts.now) 0 }
 {
     let n = means.saturating_sub(3);
-    if Profile::SPAN_MOST < n {
+    if n < Profile::SPAN_LEAST || Profile::SPAN_MOST < n {
         return Err(Refusal::Unfit);
     }
     let ones = [1u32; Profile::SPAN_MOST];

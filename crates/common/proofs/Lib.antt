@@ -3,4 +3,5 @@ pub mod Rows
 pub mod Lists
 pub mod Below
 pub mod Chains
+pub mod Cleared
 pub mod Filled

@@ -23,19 +23,19 @@ use Rattle.layout.proofs.Full.{in_full}
 pub too_long : (a : Account) → span_most < days a → account_text a ≡ refusal_text 3 0
 too_long a h = simp (lt-leb (days a) span_most h, and-false)
 
--- what a call on outputs cut to n answered and wrote is what is printed of the account, row by row
-module _ (a : Account) (f t w : List ℕ) (from_fits : days a ≤ length f) (to_fits : days a ≤ length t) (wh_fits : days a ≤ length w) where
-  long : Long (days a) (outputs (take (days a) f) (take (days a) t) (take (days a) w))
-  long = record { from = length-take-le (days a) f from_fits; to = length-take-le (days a) t to_fits; wh = length-take-le (days a) w wh_fits }
+-- what the call answered and wrote is what is printed of the account, row by row
+pub answered_says : (a : Account) (o : Outputs) → Long (days a) o → (number count : ℕ) (out : Outputs) → StatementMet a o number count a out →
+    answered_text number count out ≡ account_text a
+answered_says a o long number count out met =
+    by_row a a o (long_fit (days a) o long) number count out met (answered_text number count out ≡ account_text a)
+    (λ u is. rw (is, u) refl)
+    (λ u s is. rw (is, u, s) refl)
+    (λ ok few is. rw (is, ok.fits, ok.sound, few) refl)
+    (λ ok few is count_is out-is. rw (is, ok.fits, ok.sound, few, count_is, out-is, in_full a ok few) refl)
 
-  pub answered_says : (number count : ℕ) (out : Outputs) → StatementMet a (outputs (take (days a) f) (take (days a) t) (take (days a) w)) number count a out →
-      answered_text number count out ≡ account_text a
-  answered_says number count out met =
-      by_row a a _ (long_fit (days a) _ long) number count out met (answered_text number count out ≡ account_text a)
-      (λ u is. rw (is, u) refl)
-      (λ u s is. rw (is, u, s) refl)
-      (λ ok few is. rw (is, ok.fits, ok.sound, few) refl)
-      (λ ok few is count_is out-is. rw (is, ok.fits, ok.sound, few, count_is, out-is, in_full a ok few) refl)
+-- outputs cut to n days have that length
+pub cut_long : (n : ℕ) (f t w : List ℕ) → n ≤ length f → n ≤ length t → n ≤ length w → Long n (outputs (take n f) (take n t) (take n w))
+cut_long n f t w from to wh = record { from = length-take-le n f from; to = length-take-le n t to; wh = length-take-le n w wh }
 
 -- a refusal has its line
 pub declined : (r : Refusal) (count : ℕ) (out : Outputs) → answered_text (number_of r) count out ≡ refusal_text (number_of r) 0

@@ -4,8 +4,7 @@
 mod put;
 
 ghost use Rattle.std.specs.Prelude.{◌≡◌, false, ◌+◌, ◌*◌, ◌<◌, ◌≤◌, ◌^◌, length};
-ghost use Rattle.account.specs.Account.{account};
-ghost use Rattle.account.specs.Slices.{lent};
+ghost use Rattle.account.specs.Account.{account, lent};
 ghost use Rattle.statement.specs.Parts.{outputs};
 ghost use Rattle.statement.specs.Shares.{total};
 ghost use Rattle.layout.specs.Text.{LaidOut, TextMet, statement_text, refusal_text, line_of, part_lines, parts_text};

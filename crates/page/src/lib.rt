@@ -3,8 +3,7 @@
 
 ghost use Rattle.std.specs.Prelude.{◌≡◌, false, ◌+◌, ◌≤◌, length};
 ghost use Rattle.std.proofs.lemmas.List.Edits.{sets};
-ghost use Rattle.account.specs.Account.{account};
-ghost use Rattle.account.specs.Slices.{lent};
+ghost use Rattle.account.specs.Account.{account, lent};
 ghost use Rattle.statement.specs.Parts.{outputs};
 ghost use Rattle.statement.specs.Call.{unfit_outputs};
 ghost use Rattle.layout.specs.Text.{decimal};

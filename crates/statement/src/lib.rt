@@ -6,14 +6,13 @@ mod readings;
 ghost use Rattle.std.specs.Prelude.{◌≡◌, ◌+◌, ◌≤◌, length, sum};
 ghost use Rattle.common.specs.Refusals.{number, value};
 ghost use Rattle.profile.specs.Limits.{span_most};
-ghost use Rattle.account.specs.Account.{account, shown};
-ghost use Rattle.account.specs.Slices.{lent};
+ghost use Rattle.account.specs.Account.{account, lent, shown};
 ghost use Rattle.statement.specs.Split.{rounded_share};
 ghost use Rattle.statement.specs.Parts.{outputs};
 ghost use Rattle.statement.specs.Call.{StatementMet};
 ghost use Rattle.statement.specs.Progress.{Splittable, Addable, with_part, next_part, Interval, Written, Fillable, Filled};
 
-use account::Account;
+use account::{Account, is_reading};
 use common::{Refusal, clear};
 use readings::{count_readings, next_reading};
 
@@ -150,9 +149,10 @@ fn fill(account: Account<'_>, from: &mut [u16], to: &mut [u16], wh: &mut [u64]) 
         count: account.counts[first],
         parts: 0,
     };
-    // Kept: no index is counted, but readings are taken until none is next.
-    while let Some(q) = next_reading(account.marks, done.start + 1) {
-        done = fill_interval(account, q, from, to, wh, done);
+    for q in first + 1..account.marks.len() {
+        if is_reading(account.marks[q]) {
+            done = fill_interval(account, q, from, to, wh, done);
+        }
     }
     done.parts
 }

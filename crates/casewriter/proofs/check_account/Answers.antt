@@ -1,19 +1,10 @@
 -- Row 3 where there are no such weights to lend, else what `account::check` answers (K2). Assumes nothing.
-use Rattle.std.proofs.Common.{List, ℕ, ◌-◌, replicate, take, sym, ap, ◌∙◌, arith}
-use Rattle.std.proofs.lemmas.List.{length-replicate}
-use borrow.Author.Tests.{le-leb, lt-leb}
+use Rattle.std.proofs.Common.{List, ℕ, ◌-◌, replicate, take, ap, ◌∙◌, arith}
 use Rattle.profile.specs.Limits.{span_most}
 use Rattle.common.proofs.Lists.{take_replicate}
 use Rattle.account.specs.Account.{account}
 use Rattle.account.specs.Refusals.{account_rows}
-use Rattle.account.proofs.Rows.{unfit_rows}
 use Rattle.casewriter.proofs.check_account.Goals as goal
-
-pub returns-then-n-gt-SPAN_MOST : goal.returns-then-n-gt-SPAN_MOST
-returns-then-n-gt-SPAN_MOST c =
-    let a = c.args in
-    let n = a.means - 3 in
-    sym (unfit_rows (account (replicate n 1) a.marks.now a.counts.now) 0 (simp (length-replicate, le-leb 1 n (omega arith), lt-leb n span_most (omega arith))))
 
 pub returns : goal.returns
 returns c =

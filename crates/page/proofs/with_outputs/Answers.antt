@@ -1,6 +1,6 @@
 -- `page::with_outputs` meets its contract (K4): what the statement call answers, row by row, then the page of its parts. Assumes nothing.
 use mathlib.Core.Path.{refl, sym, ap, ◌∙◌}
-use Rattle.account.specs.Slices.{lent}
+use Rattle.account.specs.Account.{lent}
 use Rattle.statement.specs.Parts.{outputs}
 use Rattle.page.specs.Call.{Ruling}
 use Rattle.page.proofs.Table.{refused}

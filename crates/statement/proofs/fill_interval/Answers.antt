@@ -2,7 +2,7 @@
 use mathlib.Core.Path.{◌∙◌}
 use native.Mathlib.Omega.{arith}
 use Rattle.std.proofs.Common.{rules}
-use Rattle.account.specs.Slices.{lent}
+use Rattle.account.specs.Account.{lent}
 use Rattle.statement.proofs.CodeWritten.{outputs_same}
 use Rattle.statement.proofs.CodeInterval.{interval_rises, interval_start, within_small, within_splittable, within_addable, within_bare, within_cut, within_end_addable, within_end}
 use Rattle.statement.proofs.fill_interval.Goals.{then-marks-k-ne0, else-marks-k-ne0}

@@ -1,5 +1,5 @@
 -- What lasts in the loop of `statement::fill_interval` (Account and its calls): the parts up to boundary k are written (`Within`).
-use Rattle.account.specs.Slices.{lent}
+use Rattle.account.specs.Account.{lent}
 use Rattle.statement.specs.Parts.{outputs}
 use Rattle.statement.proofs.CodeInterval.{Within}
 use Rattle.statement.proofs.fill_interval.Given as goal

@@ -1,5 +1,5 @@
 -- `weights::first_out` meets its contract (Temperature of a day): what `position` finds in a series is its first mean out of range.
-use Rattle.std.proofs.Common.{rules, refl, sym, ◌∙◌, length}
+use Rattle.std.proofs.Common.{rules, refl, length}
 use Rattle.common.proofs.Chains.{Position, first_position}
 use Rattle.weights.proofs.Series.{out, first_out_is}
 use Rattle.weights.proofs.first_out.Goals as goal
@@ -8,4 +8,6 @@ pub returns : goal.returns
 returns c =
     let s = c.args.means.now in
     let found : Position (out s) (length s) c.position.result = search rules in
-    record { gives = c.unwrap_or.ensures ∙ first_position (out s) (length s) c.position.result found ∙ sym (first_out_is s); stays = refl }
+    let first = first_position (out s) (length s) c.position.result found in
+    let is = first_out_is s in
+    record { gives = search rules; stays = refl }

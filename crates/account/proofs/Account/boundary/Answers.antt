@@ -1,7 +1,7 @@
 -- `account::Account::boundary` meets its contract (If a call declines): a sound account's marks are 0 to 3. Assumes nothing.
 use native.Mathlib.Omega.{arith}
 use mathlib.Core.Path.{sym}
-use Rattle.account.specs.Slices.{lent}
+use Rattle.account.specs.Account.{lent}
 use Rattle.account.proofs.Rows.{checked}
 use Rattle.account.proofs.Sound.{mark_most, sound_parts}
 use Rattle.account.proofs.Account.boundary.Goals as goal

@@ -1,7 +1,7 @@
 -- `account::Account::good_boundaries` meets its contract (Account and its calls), turn by turn. Assumes nothing.
 use Rattle.std.proofs.Common.{rules, ◌≡◌, sym, ◌∙◌, suc, length, length-append, add-one, arith}
 use Rattle.std.proofs.lemmas.Slice.Zip.{zip_end}
-use Rattle.account.specs.Slices.{lent}
+use Rattle.account.specs.Account.{lent}
 use Rattle.account.proofs.Pass.{here, passed_none, passed_reading, passed_other, passed_all, bad_mark, bad_count, bad_order}
 use Rattle.account.proofs.Account.good_boundaries.Goals as goal
 

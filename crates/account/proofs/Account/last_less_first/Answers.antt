@@ -1,7 +1,6 @@
 -- `account::Account::last_less_first` meets its contract (Account and its calls): the calls' own contracts, put together. Assumes nothing.
 use Rattle.std.proofs.Common.{add-one, ◌∙◌}
-use Rattle.account.specs.Account.{shown}
-use Rattle.account.specs.Slices.{lent}
+use Rattle.account.specs.Account.{lent, shown}
 use Rattle.account.proofs.LastLessFirst.{last_less_first_is}
 use Rattle.account.proofs.Account.last_less_first.Goals as goal
 

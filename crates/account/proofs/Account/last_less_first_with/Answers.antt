@@ -1,8 +1,8 @@
 -- `account::Account::last_less_first_with` meets its contract (If a call declines): the calls' own contracts, put together. Assumes nothing.
 use Rattle.std.proofs.Common.{ℕ, add-one, min, max, sym, ap, ◌∙◌}
 use Rattle.account.specs.Stands.{with_reading}
-use Rattle.account.specs.Account.{shown}
-use Rattle.account.specs.Slices.{lent, reads_at}
+use Rattle.account.specs.Account.{lent, shown}
+use Rattle.account.specs.Slices.{reads_at}
 use Rattle.account.proofs.LastLessFirst.{last_less_first_is}
 use Rattle.account.proofs.With.{first_with, last_with}
 use Rattle.account.proofs.Account.last_less_first_with.Goals as goal

@@ -1,9 +1,8 @@
 -- `account::Account::out_of_order` meets its contract (If a call declines): at each boundary the code asks both halves of row 8. Assumes nothing.
 use Rattle.std.proofs.Common.{rules, ℕ, length, ap, ◌∙◌, ◌||◌, add-one}
 use Rattle.common.specs.Below.{somewhere}
-use Rattle.account.specs.Account.{shown}
+use Rattle.account.specs.Account.{lent, shown}
 use Rattle.account.specs.Refusals.{below_earlier, above_later}
-use Rattle.account.specs.Slices.{lent}
 use Rattle.common.proofs.Chains.{some_index}
 use Rattle.account.proofs.Disagrees.{disagrees_somewhere}
 use Rattle.account.proofs.Account.out_of_order.Goals as goal

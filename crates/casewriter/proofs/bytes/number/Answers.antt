@@ -1,5 +1,5 @@
 -- The lowest bytes of a number, in the words of std and in ours; a part that is copied over is stored (K2). Assumes nothing.
-use Rattle.std.proofs.Common.{◌≡◌, ℕ, zero, suc, ◌+◌, ◌/◌, ◌%◌, ◌^◌, ◌≤◌, List, length, take, refl, sym, ap, ◌∙◌, append_assoc, arith}
+use Rattle.std.proofs.Common.{rules, ◌≡◌, ℕ, zero, suc, ◌+◌, ◌/◌, ◌%◌, ◌^◌, ◌≤◌, List, length, take, refl, sym, ap, ◌∙◌, append_assoc, arith}
 use Rattle.std.proofs.Math.Nat.{pow-suc, div-div-eq-div-mul, div-one}
 use Rattle.std.proofs.lemmas.List.Edits.{sets, sets-eq}
 use Rattle.std.proofs.lemmas.List.{drop-drop}
@@ -28,6 +28,7 @@ pub returns : goal.returns
 returns c =
     let a = c.args in
     let low = lowest 0 8 a.width a.n c.requires.0 in
-    let bytes = c.copy_from_slice.ensures.after ∙ ap (take a.width) c.to_le_bytes.ensures ∙ low ∙ ap (little_bytes a.width) (div-one a.n) in
+    let whole : c.to_le_bytes.result ≡ bytes_low_first 0 8 a.n = search rules in
+    let bytes = c.copy_from_slice.ensures.after ∙ ap (take a.width) whole ∙ low ∙ ap (little_bytes a.width) (div-one a.n) in
     let long = bytes_long a.width a.n in
     stored _ _ _ a.at _ bytes (omega arith) (omega arith)
